@@ -1,0 +1,5 @@
+pub mod Kinds
+pub mod Orders
+pub mod Stops
+pub mod Energies
+pub mod Peaks

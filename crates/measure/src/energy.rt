@@ -1,0 +1,56 @@
+// Energy, mark 1.
+ghost use mathlib.Core.Path.{_≡_};
+ghost use Rattle.measure.specs.Energies.{energy, energy-laws, Energy-is-the-sum};
+use super::Energy;
+use super::Measure;
+
+impl Energy {
+    /// The energy in watt-hours, or in price times watt-hours.
+    pub fn value(self) -> u64
+        ensures { λ r. ⌜ r ≡ self .value ⌝ }
+    {
+        self.value
+    }
+}
+
+pub impl Measure for Energy as EnergyMeasure {
+    const MARK: u8 = 1;
+
+    ghost mark = { 1 };
+
+    ghost kind = { energy };
+
+    ghost laws = { energy-laws };
+
+    fn mark_told() -> u8 {
+        Self::MARK
+    }
+
+    fn nought() -> Energy {
+        Energy { value: 0 }
+    }
+
+    fn of(charge: u32) -> Energy {
+        Energy {
+            value: charge.min(1_000_000_000) as u64,
+        }
+    }
+
+    fn join(self, other: Energy) -> Energy {
+        let sum = self.value + other.value;
+        Energy {
+            value: sum.min(1_000_000_000_000),
+        }
+    }
+
+    fn not_above(self, other: Energy) -> bool {
+        self.value <= other.value
+    }
+}
+
+/// The law of energy: of up to 96 charges it is their sum.
+pub fn energy_is_the_sum() -> u8
+    ensures { λ _. ⌜ Energy-is-the-sum ⌝ }
+{
+    0
+}

@@ -1,0 +1,13 @@
+pub mod Ranked
+pub mod Optimum
+pub mod Image
+pub mod Sequences
+pub mod Rising
+pub mod Feeding
+pub mod Matters
+pub mod Reaching
+pub mod Choosing
+pub mod Filling
+pub mod Following
+pub mod Tables
+pub mod Answering

@@ -1,0 +1,6 @@
+use Rattle.recursion.proofs.Ranked.{ranked}
+use Rattle.recursion.proofs.Optimum.{recursion}
+use Rattle.recursion.proofs.laws.decisions_follow_the_recursion.Needs as need
+
+pub returns : need.returns
+returns g c = recursion (ranked (g .M·Measure .laws))

@@ -1,0 +1,122 @@
+// Planning: the rows from the last slot back to the first, then the speeds read off from the first on.
+ghost use mathlib.Core.Path.{_≡_};
+ghost use mathlib.Core.Bool.{true};
+ghost use Prim.Native.Nat.{ℕ, _+_, _-_, _*_, _≤_, _<_, min};
+ghost use lib.ListN.{length, getD};
+ghost use Rattle.recursion.specs.Staged.{best, least};
+ghost use Rattle.recursion.specs.Planning.{planAnswer, placesAfter, Promised, KeptUnlessPlanned};
+ghost use Rattle.recursion.specs.Pumps.{decisions, plannedSpeeds};
+ghost use Rattle.recursion.specs.Speeds.{lawfulSpeeds};
+ghost use Rattle.recursion.specs.Work.{mostArrived, pumpOf};
+ghost use Rattle.recursion.specs.Windows.{keepsUp, reachAt};
+ghost use Rattle.recursion.specs.Rows.{Picked, HoldsPlan, followed};
+use super::rows::charges_of;
+use super::rows::fill_row;
+use super::speeds::lawful;
+use super::windows::most_arrived;
+use super::windows::reach_at_top;
+use super::SlotWork;
+use super::Unplanned;
+use measure::Measure;
+use tariff::Tariff;
+
+// The row after the last slot: nothing is left to pay.
+fn last_row<M: Measure>(row: &mut [M], high: usize)
+    requires { ⌜ high < length (now row) ⌝ }
+    ensures { λ _. ⌜ ((e : ℕ) → e ≤ high → getD (now (row .exit)) e (M·Measure .kind .nought) ≡ M·Measure .kind .nought) ⌝ }
+{
+    for e in 0..high + 1 {
+        row[e] = M::nought();
+    }
+}
+
+// Fills the row of a slot from that of the next one.
+fn fill_slot<T: Tariff, M: Measure>(tariff: &T, speeds: &[u8], slot: usize, arrived: usize, need: usize, next: &[M], low: usize, high: usize, row: &mut [M], picks: &mut [u8])
+    requires listed { ⌜ 0 < length (now speeds) ⌝ ∗ ⌜ length (now speeds) ≤ 16 ⌝ ∗ ⌜ ((i : ℕ) → getD (now speeds) i 0 ≤ 15) ⌝ ∗ ⌜ slot ≤ 95 ⌝ }
+    requires inside { ⌜ arrived < length (now next) ⌝ ∗ ⌜ low ≤ high ⌝ ∗ ⌜ high < length (now row) ⌝ ∗ ⌜ high < length (now picks) ⌝ ∗ ⌜ high ≤ 65535 ⌝ }
+    requires enough { ⌜ need ≤ min (low + getD (now speeds) (length (now speeds) - 1) 0) arrived ⌝ }
+    ensures { λ _. ⌜ Picked (M·Measure .kind) (T·Tariff .charge (now (tariff .entry)) slot) arrived need (now (next .entry)) (now (speeds .entry)) low high (now (row .exit)) (now (picks .exit)) ⌝ }
+{
+    let charges = charges_of(tariff, speeds, slot);
+    fill_row(speeds, &charges, arrived, need, next, low, high, row, picks);
+}
+
+// Fills the table of speeds, a row for each slot, and answers the least measure from the first slot on.
+// Of the measures only two rows are kept, the next slot's and this one's, in turn.
+fn fill<T: Tariff, M: Measure>(tariff: &T, speeds: &[u8], first: usize, work: &[SlotWork], reach: &[usize; 97], width: usize, bytes: &mut [u8], measures: &mut [M]) -> M
+    requires listed { ⌜ lawfulSpeeds (now speeds) ≡ true ⌝ ∗ ⌜ first + length (now work) ≤ 96 ⌝ }
+    requires wide { ⌜ width ≡ mostArrived (now work) + 1 ⌝ ∗ ⌜ width ≤ 65536 ⌝ }
+    requires memory { ⌜ length (now work) * width ≤ length (now bytes) ⌝ ∗ ⌜ 2 * width ≤ length (now measures) ⌝ }
+    requires possible { ⌜ keepsUp (getD (now speeds) (length (now speeds) - 1) 0) (now work) 0 ≡ true ⌝ }
+    requires reached { ⌜ ((i : ℕ) → i ≤ length (now work) → getD (now reach) i 0 ≡ reachAt (getD (now speeds) (length (now speeds) - 1) 0) (now work) 0 i) ⌝ }
+    ensures table { λ _. ⌜ HoldsPlan (M·Measure .kind) (pumpOf (now (speeds .entry)) first (now (work .entry)) (T·Tariff .charge (now (tariff .entry)))) (getD (now (speeds .entry)) (length (now (speeds .entry)) - 1) 0) first (now (work .entry)) width 0 (now (bytes .exit)) ⌝ }
+    ensures answer { λ r. ⌜ ((s : ℕ) × (least (M·Measure .kind) (decisions (pumpOf (now (speeds .entry)) first (now (work .entry)) (T·Tariff .charge (now (tariff .entry))))) (length (now (work .entry))) first 0 ≡ best s r)) ⌝ }
+{
+    let n = work.len();
+    let top = speeds[speeds.len() - 1] as usize;
+    let (even, odd) = measures.split_at_mut(width);
+    last_row(even, reach[n]);
+    let mut low = 0usize;
+    let mut in_odd = false;
+    for i in (0..n).rev() {
+        let slot = work[i];
+        let need = (slot.due as usize).max(low);
+        low = need.saturating_sub(top);
+        let picks = &mut bytes[i * width..(i + 1) * width];
+        if in_odd {
+            fill_slot(tariff, speeds, first + i, slot.arrived as usize, need, odd, low, reach[i], even, picks);
+        } else {
+            fill_slot(tariff, speeds, first + i, slot.arrived as usize, need, even, low, reach[i], odd, picks);
+        }
+        in_odd = !in_odd;
+    }
+    if in_odd {
+        odd[0]
+    } else {
+        even[0]
+    }
+}
+
+// Reads the speeds off the table, from work done 0 on.
+fn follow(work: &[SlotWork], width: usize, table: &[u8], chosen: &mut [u8])
+    requires wide { ⌜ width ≡ mostArrived (now work) + 1 ⌝ ∗ ⌜ width ≤ 65536 ⌝ }
+    requires inside { ⌜ length (now work) * width ≤ length (now table) ⌝ ∗ ⌜ length (now chosen) ≡ length (now work) ⌝ }
+    ensures { λ _. ⌜ now (chosen .exit) ≡ followed width (now (table .entry)) (now (work .entry)) 0 0 ⌝ }
+{
+    let mut done = 0usize;
+    for i in 0..work.len() {
+        let speed = table[i * width + done];
+        chosen[i] = speed;
+        done = (done + speed as usize).min(work[i].arrived as usize);
+    }
+}
+
+/// Plans the cheapest speeds that keep every due slot.
+///
+/// `work` is that of the slots left, the first of which has the number `first`; `chosen` has a place for each speed.
+/// The lent memory is a byte for each slot and work done, and two rows of measures; an accepted plan leaves there what
+/// it will. A refusal changes nothing.
+pub fn plan<T: Tariff, M: Measure>(tariff: &T, speeds: &[u8], first: usize, work: &[SlotWork], bytes: &mut [u8], measures: &mut [M], chosen: &mut [u8]) -> Result<M, Unplanned>
+    ensures answer { λ r. ⌜ r ≡ planAnswer (M·Measure .kind) (pumpOf (now (speeds .entry)) first (now (work .entry)) (T·Tariff .charge (now (tariff .entry)))) first (now (work .entry)) (length (now (bytes .entry))) (length (now (measures .entry))) (length (now (chosen .entry))) ⌝ }
+    ensures chosen { λ r. ⌜ now (chosen .exit) ≡ placesAfter r (plannedSpeeds (M·Measure .kind) (pumpOf (now (speeds .entry)) first (now (work .entry)) (T·Tariff .charge (now (tariff .entry)))) (length (now (work .entry))) first 0) (now (chosen .entry)) ⌝ }
+    ensures promise { λ r. ⌜ Promised (M·Measure .kind) (pumpOf (now (speeds .entry)) first (now (work .entry)) (T·Tariff .charge (now (tariff .entry)))) (length (now (work .entry))) first (now (chosen .exit)) r ⌝ }
+    ensures bytes { λ r. ⌜ KeptUnlessPlanned r (now (bytes .entry)) (now (bytes .exit)) ⌝ }
+    ensures measures { λ r. ⌜ KeptUnlessPlanned r (now (measures .entry)) (now (measures .exit)) ⌝ }
+{
+    if first > 96 || work.len() > 96 - first || chosen.len() != work.len() {
+        return Err(Unplanned::Slots);
+    }
+    if !lawful(speeds) {
+        return Err(Unplanned::Speeds);
+    }
+    let width = most_arrived(work) as usize + 1;
+    if bytes.len() < work.len() * width || measures.len() < 2 * width {
+        return Err(Unplanned::Memory);
+    }
+    let Some(reach) = reach_at_top(work, speeds[speeds.len() - 1]) else {
+        return Err(Unplanned::Late);
+    };
+    let least = fill(tariff, speeds, first, work, &reach, width, bytes, measures);
+    follow(work, width, bytes, chosen);
+    Ok(least)
+}
