@@ -11,3 +11,4 @@ pub mod Filling
 pub mod Following
 pub mod Tables
 pub mod Answering
+pub mod Rest

@@ -6,3 +6,4 @@ pub mod Work
 pub mod Windows
 pub mod Rows
 pub mod Planning
+pub mod Trials

@@ -1,11 +1,12 @@
 -- Words: what is claimed of staged decisions, over every state, kind of measure and charge.
 use mathlib.Core.Path.{_≡_}
 use mathlib.Core.Bool.{true}
-use mathlib.Core.List.{List, _∷_}
-use Prim.Native.Nat.{ℕ, suc, _≤_}
+use mathlib.Core.List.{List, [], _∷_, _++_}
+use Prim.Native.Nat.{ℕ, suc, _+_, _≤_}
+use lib.ListN.{length}
 use Rattle.measure.specs.Kinds.{Kind}
 use Rattle.measure.specs.Orders.{chargeLists, notAboveBy}
-use Rattle.recursion.specs.Staged.{Staged, best, choiceOf, least, planned, In, Allowed, measured, Rising}
+use Rattle.recursion.specs.Staged.{Staged, best, least, planned, In, Allowed, measured, Rising}
 
 -- the least measure over the n stages from k in state x is m, reached first by the choice c
 abbrev pub IsLeast : {M X : Type 0} → Kind M → Staged X → ℕ → ℕ → X → ℕ → M → Type 0
@@ -45,7 +46,12 @@ pub record Optimal {M X : Type 0} (q : Kind M) (y : Staged X) (n k : ℕ) (x : X
 abbrev pub ByOrderAlone : {M X : Type 0} → Kind M → Staged X → ℕ → ℕ → X → Type 0
 ByOrderAlone q y n k x = planned (chargeLists (notAboveBy q)) y n k x ≡ planned q y n k x
 
+-- the state after some choices
+abbrev pub stateAfter : {X : Type 0} → Staged X → ℕ → X → List ℕ → X
+stateAfter y k x [] = x
+stateAfter y k x (c ∷ cs) = stateAfter y (suc k) (y .next k x c) cs
+
 -- the rest of a planned list is the planned list from where it has come to
 abbrev pub RestIsPlanned : {M X : Type 0} → Kind M → Staged X → ℕ → ℕ → X → Type 0
 RestIsPlanned q y n k x =
-    planned q y (suc n) k x ≡ choiceOf (least q y (suc n) k x) ∷ planned q y n (suc k) (y .next k x (choiceOf (least q y (suc n) k x)))
+    (cs ds : List ℕ) → planned q y n k x ≡ cs ++ ds → ds ≡ planned q y (length ds) (k + length cs) (stateAfter y k x cs)

@@ -20,6 +20,9 @@ pub use energy_table::EnergyTableTariff;
 pub use price_list::PriceList;
 pub use price_list::PriceListTariff;
 pub use refusal::TariffRefusal;
+pub use refusal::TariffRefusalDebug;
+pub use refusal::TariffRefusalEq;
+pub use refusal::TariffRefusalPartialEq;
 
 /// A charge for each slot 0 to 95 and each speed 0 to 15.
 pub trait Tariff {

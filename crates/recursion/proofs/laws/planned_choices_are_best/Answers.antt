@@ -1,4 +1,4 @@
-use mathlib.Core.Path.{refl}
+use Rattle.recursion.proofs.Rest.{rest-planned}
 use Rattle.recursion.proofs.Ranked.{ranked}
 use Rattle.recursion.proofs.Optimum.{optimal}
 use Rattle.recursion.proofs.Image.{planned-image}
@@ -8,5 +8,5 @@ pub returns : need.returns
 returns g c = record {
   optimal = optimal (ranked (g .M·Measure .laws));
   order = planned-image (g .M·Measure .laws);
-  rest = λ y n k x. refl;
+  rest = rest-planned (g .M·Measure .kind);
 }
