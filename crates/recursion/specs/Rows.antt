@@ -7,7 +7,7 @@ use lib.Dec.{leb}
 use lib.ListN.{length, getD, drop}
 use Rattle.tariff.specs.Charges.{largestCharge}
 use Rattle.measure.specs.Kinds.{Kind}
-use Rattle.recursion.specs.Staged.{Best, none, best, lowest, least}
+use Rattle.recursion.specs.Staged.{Best, none, best, lower, lowest, least}
 use Rattle.recursion.specs.Pumps.{Pump, decisions}
 use Rattle.recursion.specs.Windows.{reachAt, lowFor}
 use Rattle.recursion.specs.declared.work.SlotWork.{SlotWork}
@@ -16,10 +16,14 @@ use Rattle.recursion.specs.declared.work.SlotWork.{SlotWork}
 abbrev pub Charged : (ℕ → ℕ) → List ℕ → List ℕ → Type 0
 Charged charge speeds charges = (i : ℕ) → i < length speeds → (getD charges i 0 ≡ charge (getD speeds i 0)) × (getD charges i 0 ≤ largestCharge)
 
--- what speed s comes to from work done e, over the row of the next slot, if it does as much as is needed
+-- what speed s, its charge of measure m, comes to from work done e, over the row of the next slot:
+-- nothing if it does less than is needed
+abbrev pub offer : {M : Type 0} → Kind M → M → ℕ → ℕ → List M → ℕ → ℕ → Best M
+offer q m arrived need next s e =
+    cond (leb need (min (e + s) arrived)) (best s (q .join m (getD next (min (e + s) arrived) (q .nought)))) none
+
 abbrev pub tried : {M : Type 0} → Kind M → (ℕ → ℕ) → ℕ → ℕ → List M → ℕ → ℕ → Best M
-tried q charge arrived need next e s =
-    cond (leb need (min (e + s) arrived)) (best s (q .join (q .of (charge s)) (getD next (min (e + s) arrived) (q .nought)))) none
+tried q charge arrived need next e s = offer q (q .of (charge s)) arrived need next s e
 
 -- the best of the listed speeds
 abbrev pub bestTried : {M : Type 0} → Kind M → (ℕ → ℕ) → ℕ → ℕ → List M → List ℕ → ℕ → Best M
@@ -29,6 +33,12 @@ bestTried q charge arrived need next speeds e = lowest q none (tried q charge ar
 abbrev pub Picked : {M : Type 0} → Kind M → (ℕ → ℕ) → ℕ → ℕ → List M → List ℕ → ℕ → ℕ → List M → List ℕ → Type 0
 Picked q charge arrived need next speeds low high row picks =
     (e : ℕ) → low ≤ e → e ≤ high → best (getD picks e 0) (getD row e (q .nought)) ≡ bestTried q charge arrived need next speeds e
+
+-- a row of picked speeds and measures, lowered by f at each work done from `from` to before `to`, the rest left alone
+pub record Lowered {M : Type 0} (q : Kind M) (f : ℕ → Best M) (from to : ℕ) (picks : List ℕ) (row : List M) (picks′ : List ℕ) (row′ : List M) : Type 0 where
+  pub inside : (e : ℕ) → from ≤ e → e < to → best (getD picks′ e 0) (getD row′ e (q .nought)) ≡ lower q (f e) (best (getD picks e 0) (getD row e (q .nought)))
+  pub below : (e : ℕ) → e < from → best (getD picks′ e 0) (getD row′ e (q .nought)) ≡ best (getD picks e 0) (getD row e (q .nought))
+  pub above : (e : ℕ) → to ≤ e → best (getD picks′ e 0) (getD row′ e (q .nought)) ≡ best (getD picks e 0) (getD row e (q .nought))
 
 -- a row holds what is least at each work done from low to high, for the slots of ws from k on
 abbrev pub HoldsLeast : {M : Type 0} → Kind M → Pump → ℕ → ℕ → ℕ → ℕ → List M → Type 0

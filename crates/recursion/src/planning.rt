@@ -33,7 +33,7 @@ fn last_row<M: Measure>(row: &mut [M], high: usize)
 // Fills the row of a slot from that of the next one.
 fn fill_slot<T: Tariff, M: Measure>(tariff: &T, speeds: &[u8], slot: usize, arrived: usize, need: usize, next: &[M], low: usize, high: usize, row: &mut [M], picks: &mut [u8])
     requires listed { ⌜ 0 < length (now speeds) ⌝ ∗ ⌜ length (now speeds) ≤ 16 ⌝ ∗ ⌜ ((i : ℕ) → getD (now speeds) i 0 ≤ 15) ⌝ ∗ ⌜ slot ≤ 95 ⌝ }
-    requires inside { ⌜ arrived < length (now next) ⌝ ∗ ⌜ low ≤ high ⌝ ∗ ⌜ high < length (now row) ⌝ ∗ ⌜ high < length (now picks) ⌝ ∗ ⌜ high ≤ 65535 ⌝ }
+    requires inside { ⌜ arrived < length (now next) ⌝ ∗ ⌜ high < length (now row) ⌝ ∗ ⌜ high < length (now picks) ⌝ ∗ ⌜ high ≤ 65535 ⌝ ∗ ⌜ arrived ≤ 65535 ⌝ }
     requires enough { ⌜ need ≤ min (low + getD (now speeds) (length (now speeds) - 1) 0) arrived ⌝ }
     ensures { λ _. ⌜ Picked (M·Measure .kind) (T·Tariff .charge (now (tariff .entry)) slot) arrived need (now (next .entry)) (now (speeds .entry)) low high (now (row .exit)) (now (picks .exit)) ⌝ }
 {

@@ -3,27 +3,9 @@ ghost use mathlib.Core.Path.{_≡_};
 ghost use Prim.Native.Nat.{ℕ, _+_, _-_, _≤_, _<_, min};
 ghost use lib.ListN.{length, getD};
 ghost use Rattle.recursion.specs.Staged.{best, lower};
-ghost use Rattle.recursion.specs.Rows.{Charged, bestTried, Picked};
+ghost use Rattle.recursion.specs.Rows.{Charged, Lowered, offer, Picked};
 use measure::Measure;
 use tariff::Tariff;
-
-// A speed and the measure that it comes to.
-#[derive(Clone, Copy)]
-struct Choice<M> {
-    speed: u8,
-    measure: M,
-}
-
-// The lower of two, the first where they are level.
-fn lower_of<M: Measure>(first: Choice<M>, second: Choice<M>) -> Choice<M>
-    ensures { λ r. ⌜ best (r .speed) (r .measure) ≡ lower (M·Measure .kind) (best (first .speed) (first .measure)) (best (second .speed) (second .measure)) ⌝ }
-{
-    if first.measure.not_above(second.measure) {
-        first
-    } else {
-        second
-    }
-}
 
 // The charges of a slot, in the order of the speeds.
 pub(crate) fn charges_of<T: Tariff>(tariff: &T, speeds: &[u8], slot: usize) -> [u32; 16]
@@ -37,43 +19,70 @@ pub(crate) fn charges_of<T: Tariff>(tariff: &T, speeds: &[u8], slot: usize) -> [
     charges
 }
 
-// The best speed from the work done: of those that do as much as is needed, the lowest that comes to the least.
-// Top speed does as much.
-fn choose<M: Measure>(speeds: &[u8], charges: &[u32; 16], arrived: usize, need: usize, next: &[M], done: usize) -> Choice<M>
-    requires listed { ⌜ 0 < length (now speeds) ⌝ ∗ ⌜ length (now speeds) ≤ 16 ⌝ }
-    requires inside { ⌜ arrived < length (now next) ⌝ ∗ ⌜ done ≤ 65535 ⌝ }
-    requires enough { ⌜ need ≤ min (done + getD (now speeds) (length (now speeds) - 1) 0) arrived ⌝ }
-    ensures { λ r. ⌜ ((charge : ℕ → ℕ) → Charged charge (now (speeds .entry)) (now (charges .entry)) → best (r .speed) (r .measure) ≡ bestTried (M·Measure .kind) charge arrived need (now (next .entry)) (now (speeds .entry)) done) ⌝ }
+// Starts a row with one speed, which does at least as much as is needed.
+fn start_row<M: Measure>(speed: u8, measure: M, arrived: usize, next: &[M], low: usize, high: usize, row: &mut [M], picks: &mut [u8])
+    requires inside { ⌜ arrived < length (now next) ⌝ ∗ ⌜ high < length (now row) ⌝ ∗ ⌜ high < length (now picks) ⌝ ∗ ⌜ high ≤ 65535 ⌝ }
+    ensures { λ _. ⌜ ((need : ℕ) → need ≤ min (low + speed) arrived → (e : ℕ) → low ≤ e → e ≤ high → best (getD (now (picks .exit)) e 0) (getD (now (row .exit)) e (M·Measure .kind .nought)) ≡ offer (M·Measure .kind) measure arrived need (now (next .entry)) speed e) ⌝ }
 {
-    let last = speeds.len() - 1;
-    let most = (done + speeds[last] as usize).min(arrived);
-    let mut best = Choice {
-        speed: speeds[last],
-        measure: M::of(charges[last]).join(next[most]),
-    };
-    for i in (0..last).rev() {
-        let then = (done + speeds[i] as usize).min(arrived);
-        if then >= need {
-            let here = Choice {
-                speed: speeds[i],
-                measure: M::of(charges[i]).join(next[then]),
-            };
-            best = lower_of(here, best);
-        }
+    for done in low..high + 1 {
+        let then = (done + speed as usize).min(arrived);
+        row[done] = measure.join(next[then]);
+        picks[done] = speed;
     }
-    best
 }
 
-// Fills a row from low to high.
+// Lowers a row where the speed leaves work to do: it is met in full.
+fn lower_in_full<M: Measure>(speed: u8, measure: M, next: &[M], from: usize, to: usize, row: &mut [M], picks: &mut [u8])
+    requires inside { ⌜ ((e : ℕ) → from ≤ e → e < to → e + speed < length (now next)) ⌝ ∗ ⌜ from ≤ to ⌝ ∗ ⌜ to ≤ length (now row) ⌝ ∗ ⌜ to ≤ length (now picks) ⌝ ∗ ⌜ to ≤ 65536 ⌝ }
+    ensures { λ _. ⌜ Lowered (M·Measure .kind) (λ e. best speed (M·Measure .kind .join measure (getD (now (next .entry)) (e + speed) (M·Measure .kind .nought)))) from to (now (picks .entry)) (now (row .entry)) (now (picks .exit)) (now (row .exit)) ⌝ }
+{
+    for done in from..to {
+        let here = measure.join(next[done + speed as usize]);
+        if here.not_above(row[done]) {
+            row[done] = here;
+            picks[done] = speed;
+        }
+    }
+}
+
+// Lowers a row where the speed does all that has arrived: it comes to one measure.
+fn lower_at_once<M: Measure>(speed: u8, measure: M, from: usize, to: usize, row: &mut [M], picks: &mut [u8])
+    requires inside { ⌜ from ≤ to ⌝ ∗ ⌜ to ≤ length (now row) ⌝ ∗ ⌜ to ≤ length (now picks) ⌝ }
+    ensures { λ _. ⌜ Lowered (M·Measure .kind) (λ e. best speed measure) from to (now (picks .entry)) (now (row .entry)) (now (picks .exit)) (now (row .exit)) ⌝ }
+{
+    for done in from..to {
+        if measure.not_above(row[done]) {
+            row[done] = measure;
+            picks[done] = speed;
+        }
+    }
+}
+
+// Lowers a row by one speed: not where it does less than is needed, in full where that leaves work, at once from there on.
+fn lower_row<M: Measure>(speed: u8, measure: M, arrived: usize, need: usize, next: &[M], low: usize, high: usize, row: &mut [M], picks: &mut [u8])
+    requires inside { ⌜ arrived < length (now next) ⌝ ∗ ⌜ high < length (now row) ⌝ ∗ ⌜ high < length (now picks) ⌝ ∗ ⌜ high ≤ 65535 ⌝ ∗ ⌜ arrived ≤ 65535 ⌝ }
+    requires enough { ⌜ need ≤ arrived ⌝ }
+    ensures { λ _. ⌜ ((e : ℕ) → low ≤ e → e ≤ high → best (getD (now (picks .exit)) e 0) (getD (now (row .exit)) e (M·Measure .kind .nought)) ≡ lower (M·Measure .kind) (offer (M·Measure .kind) measure arrived need (now (next .entry)) speed e) (best (getD (now (picks .entry)) e 0) (getD (now (row .entry)) e (M·Measure .kind .nought)))) ⌝ }
+{
+    let s = speed as usize;
+    let end = high + 1;
+    let from = need.saturating_sub(s).max(low).min(end);
+    let mid = (arrived + 1).saturating_sub(s).max(from).min(end);
+    lower_in_full(speed, measure, next, from, mid, row, picks);
+    lower_at_once(speed, measure.join(next[arrived]), mid, end, row, picks);
+}
+
+// Fills a row from low to high: at each work done the lowest speed that comes to the least, of those that do as much as
+// is needed. Top speed does as much from low on. The speeds are taken from the top down, each over the whole row.
 pub(crate) fn fill_row<M: Measure>(speeds: &[u8], charges: &[u32; 16], arrived: usize, need: usize, next: &[M], low: usize, high: usize, row: &mut [M], picks: &mut [u8])
     requires listed { ⌜ 0 < length (now speeds) ⌝ ∗ ⌜ length (now speeds) ≤ 16 ⌝ }
-    requires inside { ⌜ arrived < length (now next) ⌝ ∗ ⌜ low ≤ high ⌝ ∗ ⌜ high < length (now row) ⌝ ∗ ⌜ high < length (now picks) ⌝ ∗ ⌜ high ≤ 65535 ⌝ }
+    requires inside { ⌜ arrived < length (now next) ⌝ ∗ ⌜ high < length (now row) ⌝ ∗ ⌜ high < length (now picks) ⌝ ∗ ⌜ high ≤ 65535 ⌝ ∗ ⌜ arrived ≤ 65535 ⌝ }
     requires enough { ⌜ need ≤ min (low + getD (now speeds) (length (now speeds) - 1) 0) arrived ⌝ }
     ensures { λ _. ⌜ ((charge : ℕ → ℕ) → Charged charge (now (speeds .entry)) (now (charges .entry)) → Picked (M·Measure .kind) charge arrived need (now (next .entry)) (now (speeds .entry)) low high (now (row .exit)) (now (picks .exit))) ⌝ }
 {
-    for done in low..high + 1 {
-        let choice = choose(speeds, charges, arrived, need, next, done);
-        row[done] = choice.measure;
-        picks[done] = choice.speed;
+    let last = speeds.len() - 1;
+    start_row(speeds[last], M::of(charges[last]), arrived, next, low, high, row, picks);
+    for i in (0..last).rev() {
+        lower_row(speeds[i], M::of(charges[i]), arrived, need, next, low, high, row, picks);
     }
 }

@@ -52,7 +52,7 @@ fill-slot-requires g c κs =
     let odd : c .args .width ≤ length (c .loop-i .odd) = omega (arith, c .loop-i .kept .odd, c .split-at-mut-even .ensures .back-len, c .pre .memory .1) in
     record {
       listed = (omega (arith, l .some), (l .few, (each-low _ _ l, omega (arith, c .pre .listed .1))));
-      inside = (omega (arith, a .arrived-in), (omega (arith, a .ordered), (omega (arith, a .high-in), (simp (length-take, length-drop) (omega (arith, a .high-in, a .wide, a .last, c .loop-i .kept .bytes, c .pre .memory .0)), omega (arith, a .high-in, c .pre .wide .1)))));
+      inside = (omega (arith, a .arrived-in), (omega (arith, a .high-in), (simp (length-take, length-drop) (omega (arith, a .high-in, a .wide, a .last, c .loop-i .kept .bytes, c .pre .memory .0)), (omega (arith, a .high-in, c .pre .wide .1), omega (arith, a .arrived-in, c .pre .wide .1)))));
       enough = a .enough;
     }
 
@@ -69,7 +69,7 @@ fill-slot-requires-else-in-odd g c κs =
     let odd : c .args .width ≤ length (c .loop-i .odd) = omega (arith, c .loop-i .kept .odd, c .split-at-mut-even .ensures .back-len, c .pre .memory .1) in
     record {
       listed = (omega (arith, l .some), (l .few, (each-low _ _ l, omega (arith, c .pre .listed .1))));
-      inside = (omega (arith, a .arrived-in), (omega (arith, a .ordered), (omega (arith, a .high-in), (simp (length-take, length-drop) (omega (arith, a .high-in, a .wide, a .last, c .loop-i .kept .bytes, c .pre .memory .0)), omega (arith, a .high-in, c .pre .wide .1)))));
+      inside = (omega (arith, a .arrived-in), (omega (arith, a .high-in), (simp (length-take, length-drop) (omega (arith, a .high-in, a .wide, a .last, c .loop-i .kept .bytes, c .pre .memory .0)), (omega (arith, a .high-in, c .pre .wide .1), omega (arith, a .arrived-in, c .pre .wide .1)))));
       enough = a .enough;
     }
 

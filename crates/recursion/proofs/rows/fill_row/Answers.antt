@@ -1,13 +1,18 @@
 use native.Mathlib.Omega.{arith}
-use Rattle.recursion.specs.Rows.{bestTried}
-use Rattle.recursion.proofs.Filling.{row-more}
+use Rattle.recursion.proofs.Ranked.{ranked}
+use Rattle.recursion.proofs.Choosing.{picked-last, picked-before, picked-all}
 use Rattle.recursion.proofs.rows.fill_row.Needs as need
 
-pub loop-done-again : need.loop-done-again
-loop-done-again g c charge charged =
-    row-more (c .loop-done .picks) (c .loop-done .row) (c .args .low) (c .loop-done .done) (c .choose-choice .result .speed) (c .choose-choice .result .measure) (g .M·Measure .kind .nought)
-    (bestTried (g .M·Measure .kind) charge (c .args .arrived) (c .args .need) (c .args .next .now) (c .args .speeds .now))
-    (omega arith) (omega arith) (c .loop-done .inv charge charged) (c .choose-choice .ensures charge charged)
+pub loop-i-holds : need.loop-i-holds
+loop-i-holds g c charge charged =
+    picked-last (ranked (g .M·Measure .laws)) charge (c .args .arrived) (c .args .need) (c .args .next .now) (c .args .speeds .now)
+    (c .args .charges .now) (c .of .result) (c .args .low) (c .args .high) (c .start-row .last .picks) (c .start-row .last .row) charged (omega (arith, c .pre .listed)) (c .of .ensures) (c .start-row .ensures (c .args .need) (c .pre .enough))
+
+pub loop-i-again : need.loop-i-again
+loop-i-again g c charge charged =
+    picked-before (ranked (g .M·Measure .laws)) charge (c .args .arrived) (c .args .need) (c .args .next .now) (c .args .speeds .now)
+    (c .args .charges .now) (c .loop-i .i) (c .of-in-loop-i .result) (c .args .low) (c .args .high) (c .loop-i .picks) (c .lower-row .last .picks) (c .loop-i .row) (c .lower-row .last .row) charged (omega arith) (omega arith) (c .of-in-loop-i .ensures) (c .loop-i .inv charge charged) (c .lower-row .ensures)
 
 pub returns : need.returns
-returns g c charge charged e h i = c .loop-done .inv charge charged e h (omega arith)
+returns g c charge charged =
+    picked-all (ranked (g .M·Measure .laws)) charge (c .args .arrived) (c .args .need) (c .args .next .now) (c .args .speeds .now) (c .loop-i .i) (c .args .low) (c .args .high) (c .loop-i .picks) (c .loop-i .row) (c .loop-i-test .left) (c .loop-i .inv charge charged)

@@ -1,13 +1,10 @@
-use Prim.Native.Nat.{ℕ, _<_, _≤_}
-use mathlib.Core.Path.{_≡_}
-use lib.ListN.{getD}
-use Rattle.recursion.specs.Staged.{best}
-use Rattle.recursion.specs.Rows.{Charged, bestTried}
+use Prim.Native.Nat.{ℕ}
+use lib.ListN.{drop}
+use Rattle.recursion.specs.Rows.{Charged, Picked}
 use Rattle.recursion.proofs.rows.fill_row.Given as given
 
--- the states from low up to the next hold their best
-abbrev pub Inv-loop-done : given.InvT-loop-done
-Inv-loop-done g l =
-    let q = g .M·Measure .kind in
-    (charge : ℕ → ℕ) → Charged charge (l .speeds) (l .charges) → (e : ℕ) → l .low ≤ e → e < l .done →
-    best (getD (l .picks) e 0) (getD (l .row) e (q .nought)) ≡ bestTried q charge (l .arrived) (l .need) (l .next) (l .speeds) e
+-- the row is picked from the speeds from i on
+abbrev pub Inv-loop-i : given.InvT-loop-i
+Inv-loop-i g l =
+    (charge : ℕ → ℕ) → Charged charge (l .speeds) (l .charges) →
+    Picked (g .M·Measure .kind) charge (l .arrived) (l .need) (l .next) (drop (l .i) (l .speeds)) (l .low) (l .high) (l .row) (l .picks)
