@@ -1,16 +1,16 @@
 -- The energy of a list is its sum, the peak its largest.
-use mathlib.Core.Path.{_≡_, refl, sym, _∙_}
+use mathlib.Core.Path.{refl, _∙_}
 use mathlib.Core.List.{List, [], _∷_}
 use mathlib.Core.Logic.{⊎-elim}
-use Prim.Native.Nat.{ℕ, zero, suc, _+_, _*_, _≤_, max}
+use Prim.Native.Nat.{ℕ, zero, suc, _*_, _≤_, max}
 use native.Mathlib.Omega.{arith}
 use lib.ListN.{length, getD}
 use Rattle.std.proofs.shelf.Tests.{cases-lt}
 use Rattle.tariff.specs.Bounds.{EachWithin}
 use Rattle.tariff.specs.Charges.{largestCharge}
 use Rattle.measure.specs.Kinds.{measureOf}
-use Rattle.measure.specs.Energies.{energy, total, Energy-is-the-sum}
-use Rattle.measure.specs.Peaks.{peak, Largest, Peak-is-the-largest}
+use Rattle.measure.specs.Energies.{total, Energy-is-the-sum}
+use Rattle.measure.specs.Peaks.{peak, Peak-is-the-largest}
 
 total-bound : (cs : List ℕ) → EachWithin largestCharge cs → total cs ≤ 1000000000 * length cs
 total-bound [] h = omega arith
@@ -31,6 +31,6 @@ peak-largest (c ∷ cs) =
     (λ le. record { above-each = above c cs (rest .above-each); place = 0; one-of-them = omega arith })
     (cases-lt c v)
   where
-  above : (c : ℕ) (cs : List ℕ) → ((i : ℕ) → getD cs i 0 ≤ measureOf peak cs .value) → (i : ℕ) → getD (c ∷ cs) i 0 ≤ max c (measureOf peak cs .value)
-  above c cs h zero = omega arith
-  above c cs h (suc i) = omega (arith, h i)
+    above : (c : ℕ) (cs : List ℕ) → ((i : ℕ) → getD cs i 0 ≤ measureOf peak cs .value) → (i : ℕ) → getD (c ∷ cs) i 0 ≤ max c (measureOf peak cs .value)
+    above c cs h zero = omega arith
+    above c cs h (suc i) = omega (arith, h i)

@@ -1,6 +1,6 @@
 // Energy, mark 1.
 ghost use mathlib.Core.Path.{_≡_};
-ghost use Rattle.measure.specs.Energies.{energy, energy-laws, Energy-is-the-sum};
+ghost use Rattle.measure.specs.Energies.{energy, energy-laws, stopped, Energy-is-the-sum};
 use super::Energy;
 use super::Measure;
 
@@ -9,7 +9,17 @@ impl Energy {
     pub fn value(self) -> u64
         ensures { λ r. ⌜ r ≡ self .value ⌝ }
     {
-        self.value
+        let total = self.value;
+        total
+    }
+}
+
+// The energy of a sum, which stops where it must.
+fn stopped_at(sum: u64) -> Energy
+    ensures { λ r. ⌜ r ≡ stopped sum ⌝ }
+{
+    Energy {
+        value: sum.min(1_000_000_000_000),
     }
 }
 
@@ -27,20 +37,15 @@ pub impl Measure for Energy as EnergyMeasure {
     }
 
     fn nought() -> Energy {
-        Energy { value: 0 }
+        stopped_at(0)
     }
 
     fn of(charge: u32) -> Energy {
-        Energy {
-            value: charge.min(1_000_000_000) as u64,
-        }
+        stopped_at(charge.min(1_000_000_000) as u64)
     }
 
     fn join(self, other: Energy) -> Energy {
-        let sum = self.value + other.value;
-        Energy {
-            value: sum.min(1_000_000_000_000),
-        }
+        stopped_at(self.value + other.value)
     }
 
     fn not_above(self, other: Energy) -> bool {

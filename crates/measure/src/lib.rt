@@ -8,6 +8,7 @@ ghost use Rattle.measure.specs.Orders.{Ordering as OrdersCharges};
 mod amounts;
 mod energy;
 mod peak;
+
 pub use amounts::Energy;
 pub use amounts::Peak;
 pub use energy::EnergyMeasure;

@@ -9,7 +9,8 @@ impl Peak {
     pub fn value(self) -> u32
         ensures { λ r. ⌜ r ≡ self .value ⌝ }
     {
-        self.value
+        let largest = self.value;
+        largest
     }
 }
 

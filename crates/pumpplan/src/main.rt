@@ -19,6 +19,7 @@ use tariff::TariffRefusal;
 
 // Watt-hours of a slot by speed; the pump runs at 0, 1 or 3.
 const ENERGIES: [u32; 16] = [1, 4, 0, 15, 0, 0, 0, 0, 0, 0, 0, 0, 0, 0, 0, 0];
+
 const SPEEDS: [u8; 3] = [0, 1, 3];
 
 // Two units arrive in slot 0 and are due before slot 2, three arrive in slot 1 and are due before slot 4.
@@ -74,7 +75,15 @@ fn worked_plan(table: &EnergyTable) -> Result<Plan, Fault>
     let mut bytes = [0u8; 24];
     let mut measures = [Energy::nought(); 12];
     let mut speeds = [0u8; 4];
-    let least = plan(table, &SPEEDS, 0, &WORK, &mut bytes, &mut measures, &mut speeds)?;
+    let least = plan(
+        table,
+        &SPEEDS,
+        0,
+        &WORK,
+        &mut bytes,
+        &mut measures,
+        &mut speeds,
+    )?;
     Ok(Plan {
         speeds,
         total: least.value(),

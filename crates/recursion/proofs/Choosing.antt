@@ -1,15 +1,15 @@
 -- Lowering a row by one speed after another, from the last to the first.
 use mathlib.Core.Path.{_≡_, refl, sym, ap, subst, _∙_}
-use mathlib.Core.Bool.{Bool, true, false, cond}
+use mathlib.Core.Bool.{Bool, true, false}
 use mathlib.Core.List.{List, [], _∷_}
 use mathlib.Core.Logic.{_≢_, ⊎-elim}
-use Prim.Native.Nat.{ℕ, suc, _+_, _-_, _≤_, _<_, min, max}
+use Prim.Native.Nat.{ℕ, _+_, _-_, _≤_, _<_, min}
 use native.Mathlib.Omega.{arith}
 use borrow.Author.Tests.{clash}
 use lib.Dec.{leb}
 use lib.ListN.{length, getD, set, drop}
 use Rattle.std.proofs.shelf.Lists.{at-drop-more, at-drop-all, getD-read, getD-set-same, getD-set-other}
-use Rattle.std.proofs.shelf.Tests.{cases-bool, cases-lt, cond-true, cond-false, le-leb, lt-leb}
+use Rattle.std.proofs.shelf.Tests.{cases-bool, cases-lt, cond-true, cond-false, le-leb}
 use Rattle.tariff.specs.Charges.{largestCharge}
 use Rattle.measure.specs.Kinds.{Kind}
 use Rattle.recursion.specs.Staged.{Best, none, best, under, lower, lowest}
@@ -54,9 +54,9 @@ lowered-keep {M} q f from i s m picks row picks′ row′ start is over inv = re
 lowered-set : {M : Type 0} (q : Kind M) (f : ℕ → Best M) (from i s : ℕ) (m : M) (picks : List ℕ) (row : List M) (picks′ : List ℕ) (row′ : List M) → from ≤ i → i < length picks′ → i < length row′ → f i ≡ best s m → q .notAbove m (getD row′ i (q .nought)) ≡ true → Lowered q f from i picks row picks′ row′ → Lowered q f from (i + 1) picks row (set picks′ i s) (set row′ i m)
 lowered-set {M} q f from i s m picks row picks′ row′ start ip ir is under inv =
     let other : (e : ℕ) → e ≢ i → best (getD (set picks′ i s) e 0) (getD (set row′ i m) e (q .nought)) ≡ best (getD picks′ e 0) (getD row′ e (q .nought)) =
-        λ e ne. ap (λ (v : ℕ). best v (getD (set row′ i m) e (q .nought))) (getD-set-other picks′ i e s 0 ne) ∙ ap (best (getD picks′ e 0)) (getD-set-other row′ i e m (q .nought) ne) in
+    λ e ne. ap (λ (v : ℕ). best v (getD (set row′ i m) e (q .nought))) (getD-set-other picks′ i e s 0 ne) ∙ ap (best (getD picks′ e 0)) (getD-set-other row′ i e m (q .nought) ne) in
     let here : best (getD (set picks′ i s) i 0) (getD (set row′ i m) i (q .nought)) ≡ best s m =
-        ap (λ (v : ℕ). best v (getD (set row′ i m) i (q .nought))) (getD-set-same picks′ i s 0 ip) ∙ ap (best s) (getD-set-same row′ i m (q .nought) ir) in
+    ap (λ (v : ℕ). best v (getD (set row′ i m) i (q .nought))) (getD-set-same picks′ i s 0 ip) ∙ ap (best s) (getD-set-same row′ i m (q .nought) ir) in
     record {
       inside = λ e h k. ⊎-elim
           (λ lt. let ne : e ≢ i = omega arith in other e ne ∙ inv .inside e h lt)

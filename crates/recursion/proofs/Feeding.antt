@@ -1,12 +1,12 @@
 -- The work of the slots from k on, as a pump has it.
-use mathlib.Core.Path.{_≡_, refl, sym, ap, subst, _∙_}
+use mathlib.Core.Path.{_≡_, sym, ap, subst}
 use mathlib.Core.List.{List, [], _∷_}
-use Prim.Native.Nat.{ℕ, zero, suc, _+_, _-_, _≤_, _<_}
+use Prim.Native.Nat.{ℕ, zero, suc, _+_, _-_}
 use native.Mathlib.Nat.{add-zero}
 use native.Mathlib.Omega.{arith}
-use lib.ListN.{length, getD, drop}
+use lib.ListN.{drop}
 use Rattle.recursion.specs.Pumps.{Pump}
-use Rattle.recursion.specs.Work.{noWork, arrivedAt, dueAt, pumpOf}
+use Rattle.recursion.specs.Work.{arrivedAt, dueAt, pumpOf}
 use Rattle.recursion.specs.declared.work.SlotWork.{SlotWork}
 
 abbrev pub Feeds : Pump → ℕ → List SlotWork → Type 0
@@ -29,8 +29,8 @@ feeds-each y k (w ∷ ws) h =
 pub feeds-pump : (speeds : List ℕ) (first : ℕ) (work : List SlotWork) (charge : ℕ → ℕ → ℕ) → Feeds (pumpOf speeds first work charge) first work
 feeds-pump speeds first work charge =
     feeds-each (pumpOf speeds first work charge) first work (λ i.
-        let a : first + i - first ≡ i = omega arith in
-        let d : suc (first + i) - suc first ≡ i = omega arith in (ap (arrivedAt work) a, ap (dueAt work) d))
+    let a : first + i - first ≡ i = omega arith in
+    let d : suc (first + i) - suc first ≡ i = omega arith in (ap (arrivedAt work) a, ap (dueAt work) d))
 
 pub feeds-drop : (y : Pump) (k : ℕ) (ws : List SlotWork) (i : ℕ) → Feeds y k ws → Feeds y (k + i) (drop i ws)
 feeds-drop y k ws zero h = subst (λ (v : ℕ). Feeds y v ws) (sym (add-zero k)) h

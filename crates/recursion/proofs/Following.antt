@@ -1,7 +1,7 @@
 -- Reading the speeds off the table.
-use mathlib.Core.Path.{_≡_, refl, sym, ap, subst, _∙_}
+use mathlib.Core.Path.{_≡_, sym, ap, _∙_}
 use mathlib.Core.List.{List, [], _∷_, _++_}
-use Prim.Native.Nat.{ℕ, zero, suc, _+_, _*_, _≤_, _<_, min, max}
+use Prim.Native.Nat.{ℕ, zero, suc, _+_, _*_, _≤_, _<_, min}
 use native.Mathlib.Nat.{add-mul, one-mul, mul-le-mul-right}
 use native.Mathlib.Numerals.{add-one}
 use native.Mathlib.Omega.{arith}
@@ -28,7 +28,7 @@ pub follow-step : (width : ℕ) (table : List ℕ) (ws : List SlotWork) (chosen 
 follow-step width table ws chosen i e s f h inside is then =
     let t = getD table (i * width + e) 0 in
     let there : followed width table (drop (i + 1) ws) (i + 1) f ≡ followed width table (drop (i + 1) ws) (suc i) (min (e + t) (arrivedAt ws i)) =
-        ap (λ (v : ℕ). followed width table (drop (i + 1) ws) v f) (add-one i) ∙ ap (followed width table (drop (i + 1) ws) (suc i)) (then ∙ ap (λ (v : ℕ). min (e + v) (arrivedAt ws i)) is) in
+    ap (λ (v : ℕ). followed width table (drop (i + 1) ws) v f) (add-one i) ∙ ap (followed width table (drop (i + 1) ws) (suc i)) (then ∙ ap (λ (v : ℕ). min (e + v) (arrivedAt ws i)) is) in
     let rest = followed width table (drop (i + 1) ws) (suc i) (min (e + t) (arrivedAt ws i)) in
     ap (λ (l : List ℕ). l ++ followed width table (drop (i + 1) ws) (i + 1) f) (take-more-set chosen i s inside)
     ∙ append-assoc (take i chosen) (s ∷ []) (followed width table (drop (i + 1) ws) (i + 1) f)

@@ -1,6 +1,6 @@
 -- The states that matter: below the low nothing is in time, and top speed reaches as far as any.
-use mathlib.Core.Path.{_≡_, refl, sym, ap, subst, _∙_}
-use mathlib.Core.Bool.{Bool, true, false, cond, _&&_}
+use mathlib.Core.Path.{_≡_, refl, sym, ap, _∙_}
+use mathlib.Core.Bool.{Bool, true, false, cond}
 use mathlib.Core.List.{List, [], _∷_}
 use mathlib.Core.Logic.{_⊎_, inl, inr, ⊎-elim}
 use Prim.Native.Nat.{ℕ, zero, suc, _+_, _-_, _≤_, _<_, min, max}
@@ -13,7 +13,7 @@ use Rattle.recursion.specs.Staged.{Best, none, best, lower, lowest, ahead, lea
 use Rattle.recursion.specs.Pumps.{Pump, workAfter, decisions}
 use Rattle.recursion.specs.Rows.{tried, bestTried, HoldsLeast}
 use Rattle.recursion.specs.Windows.{keepsUp, reachAt, lowFor}
-use Rattle.recursion.specs.Work.{arrivedAt, noWork}
+use Rattle.recursion.specs.Work.{arrivedAt}
 use Rattle.recursion.specs.declared.work.SlotWork.{SlotWork}
 use Rattle.recursion.proofs.Feeding.{Feeds}
 

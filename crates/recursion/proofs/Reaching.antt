@@ -1,7 +1,7 @@
 -- The pass at top speed: what holds at the start of each turn.
 use mathlib.Core.Path.{_≡_, refl, sym, ap, subst, _∙_}
 use mathlib.Core.Bool.{Bool, true, false, _&&_}
-use mathlib.Core.List.{List, [], _∷_}
+use mathlib.Core.List.{List}
 use mathlib.Core.Logic.{_≢_, ⊎-elim}
 use Prim.Native.Nat.{ℕ, zero, suc, _+_, _≤_, _<_, min}
 use native.Mathlib.Numerals.{add-one}
@@ -28,7 +28,6 @@ at-first top ws (suc j) h = absurd (omega arith)
 pub reaching-first : (top : ℕ) (ws : List SlotWork) → Reaching top ws (replicate 97 0) 0
 reaching-first top ws = record { whole = refl; reached = at-first top ws; on = refl; small = omega arith }
 
-
 one-slot : (top : ℕ) (ws : List SlotWork) (i e : ℕ) → i < length ws → keepsUp top (drop i ws) e ≡ (leb (dueAt ws i) (min (e + top) (arrivedAt ws i)) && keepsUp top (drop (i + 1) ws) (min (e + top) (arrivedAt ws i)))
 one-slot top ws i e h = at-drop-more (λ l. keepsUp top l e) ws i noWork h
 
@@ -43,7 +42,7 @@ reaching-next top ws reach i done few h inv is due small =
     let here : getD (set reach (i + 1) done) (i + 1) 0 ≡ done = getD-set-same reach (i + 1) done 0 inside in
     let f = min (getD reach i 0 + top) (arrivedAt ws i) in
     let far : reachAt top ws 0 (i + 1) ≡ done =
-        ap (reachAt top ws 0) (add-one i) ∙ reach-next top ws 0 i h ∙ ap (λ (v : ℕ). min (v + top) (arrivedAt ws i)) (sym (inv .reached i (omega arith))) ∙ sym is in
+    ap (reachAt top ws 0) (add-one i) ∙ reach-next top ws 0 i h ∙ ap (λ (v : ℕ). min (v + top) (arrivedAt ws i)) (sym (inv .reached i (omega arith))) ∙ sym is in
     record {
       whole = length-set reach (i + 1) done ∙ inv .whole;
       reached = λ j le. ⊎-elim

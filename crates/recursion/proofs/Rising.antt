@@ -8,8 +8,8 @@ use native.Mathlib.Omega.{arith}
 use borrow.Author.Tests.{clash}
 use lib.Dec.{leb, ltb, eqb}
 use lib.ListN.{length, getD, drop}
-use Rattle.std.proofs.shelf.Lists.{at-drop-more, at-drop-all, getD-past}
-use Rattle.std.proofs.shelf.Tests.{cases-lt, leb-true, ltb-true, le-leb, lt-ltb, le-ltb, eq-eqb, eqb-true, and-parts}
+use Rattle.std.proofs.shelf.Lists.{at-drop-more, getD-past}
+use Rattle.std.proofs.shelf.Tests.{cases-lt, leb-true, ltb-true, le-leb, lt-ltb, le-ltb, eq-eqb, and-parts}
 use Rattle.recursion.specs.Staged.{In, Rising}
 use Rattle.recursion.specs.Speeds.{risesFrom, lastFrom, lawfulSpeeds}
 

@@ -4,12 +4,10 @@ use mathlib.Core.Bool.{true}
 use mathlib.Core.List.{List, [], _∷_}
 use Prim.Native.Nat.{ℕ, zero, suc}
 use native.Mathlib.Omega.{arith}
-use lib.ListN.{length}
 use Rattle.std.proofs.shelf.Tests.{leb-true, le-leb}
 use Rattle.measure.specs.Kinds.{Kind, measureOf}
-use Rattle.recursion.specs.Staged.{Allowed, charges, planned}
-use Rattle.recursion.specs.Optimality.{IsLeast}
-use Rattle.recursion.specs.Pumps.{Pump, workAfter, InTime, Listed, InTimeSequence, chargesFrom, sequenceMeasure, decisions, plannedSpeeds, PlanIsBest, PumpOptimal}
+use Rattle.recursion.specs.Staged.{Allowed, charges}
+use Rattle.recursion.specs.Pumps.{Pump, workAfter, InTimeSequence, chargesFrom, decisions, plannedSpeeds, PumpOptimal}
 use Rattle.recursion.proofs.Ranked.{Ranked}
 use Rattle.recursion.proofs.Optimum.{optimal}
 
@@ -18,10 +16,10 @@ sequence-allowed y zero k e [] w = tt
 sequence-allowed y zero k e (s ∷ ss) w = omega (arith, w .each-slot)
 sequence-allowed y (suc n) k e [] w = omega (arith, w .each-slot)
 sequence-allowed y (suc n) k e (s ∷ ss) w = (
-    w .listed .0,
-    le-leb (y .due (suc k)) (workAfter y k e s) (w .in-time .0),
-    sequence-allowed y n (suc k) (workAfter y k e s) ss (record { each-slot = omega (arith, w .each-slot); listed = w .listed .1; in-time = w .in-time .1 }),
-  )
+  w .listed .0,
+  le-leb (y .due (suc k)) (workAfter y k e s) (w .in-time .0),
+  sequence-allowed y n (suc k) (workAfter y k e s) ss (record { each-slot = omega (arith, w .each-slot); listed = w .listed .1; in-time = w .in-time .1 }),
+)
 
 pub allowed-sequence : (y : Pump) (n k e : ℕ) (ss : List ℕ) → Allowed (decisions y) n k e ss → InTimeSequence y n k e ss
 allowed-sequence y zero k e [] a = record { each-slot = refl; listed = tt; in-time = tt }

@@ -1,5 +1,5 @@
 -- A turn of the loop over the slots: one row more of the table, one measure row for another.
-use mathlib.Core.Path.{_≡_, refl, sym, ap, subst, _∙_}
+use mathlib.Core.Path.{_≡_, sym, ap, subst, _∙_}
 use mathlib.Core.Bool.{true}
 use mathlib.Core.List.{List, [], _∷_, _++_}
 use mathlib.Core.Logic.{⊎-elim}
@@ -11,7 +11,7 @@ use lib.ListN.{length, getD, take, drop}
 use Rattle.std.proofs.shelf.Lists.{drop-more, drop-all, getD-append-left, getD-append-right, getD-drop, getD-read, length-take, length-take-le, length-drop}
 use Rattle.std.proofs.shelf.Tests.{cases-lt}
 use Rattle.measure.specs.Kinds.{Kind}
-use Rattle.recursion.specs.Staged.{Best, best, least, In}
+use Rattle.recursion.specs.Staged.{best, least, In}
 use Rattle.recursion.specs.Pumps.{Pump, decisions}
 use Rattle.recursion.specs.Rows.{bestTried, Picked, HoldsLeast, HoldsPlan}
 use Rattle.recursion.specs.Windows.{keepsUp, reachAt, lowFor}
@@ -51,7 +51,7 @@ pub record SlotRoom (top : ℕ) (ws : List SlotWork) (i : ℕ) : Type 0 where
 pub slot-room : (top : ℕ) (ws : List SlotWork) (i : ℕ) → i < length ws → keepsUp top ws 0 ≡ true → SlotRoom top ws i
 slot-room top ws i h up =
     let here : keepsUp top (getD ws i noWork ∷ drop (i + 1) ws) (reachAt top ws 0 i) ≡ true =
-        subst (λ (l : List SlotWork). keepsUp top l (reachAt top ws 0 i) ≡ true) (drop-more ws i noWork h) (keeps-up-on top ws 0 i up) in
+    subst (λ (l : List SlotWork). keepsUp top l (reachAt top ws 0 i) ≡ true) (drop-more ws i noWork h) (keeps-up-on top ws 0 i up) in
     record {
       enough = need-under top (getD ws i noWork) (drop (i + 1) ws) (reachAt top ws 0 i) here;
       ordered = low-under top (getD ws i noWork ∷ drop (i + 1) ws) (reachAt top ws 0 i) here;
@@ -91,16 +91,16 @@ module _ {M : Type 0} (q : Kind M) (y : Pump) (top : ℕ) (tops : (s : ℕ) → 
       let far : reachAt top work 0 l ≡ min (reachAt top work 0 i + top) (w .arrived) = ap (reachAt top work 0) (on ∙ add-one i) ∙ reach-next top work 0 i inside in
       let slot : first + l ≡ suc (first + i) = omega arith in
       let after : HoldsLeast q y (length ws) (suc (first + i)) (lowFor top ws) (min (reachAt top work 0 i + top) (w .arrived)) next =
-          subst (λ (v : ℕ). HoldsLeast q y (length ws) (suc (first + i)) (lowFor top ws) v next) far
-          (subst (λ (v : ℕ). HoldsLeast q y (length ws) (suc (first + i)) v (reachAt top work 0 l) next) low-then
-          (subst (λ (v : ℕ). HoldsLeast q y (length ws) v low (reachAt top work 0 l) next) slot
-          (subst (λ (v : ℕ). HoldsLeast q y (length (drop v work)) (first + l) low (reachAt top work 0 l) next) on (inv .row)))) in
+      subst (λ (v : ℕ). HoldsLeast q y (length ws) (suc (first + i)) (lowFor top ws) v next) far
+      (subst (λ (v : ℕ). HoldsLeast q y (length ws) (suc (first + i)) v (reachAt top work 0 l) next) low-then
+      (subst (λ (v : ℕ). HoldsLeast q y (length ws) v low (reachAt top work 0 l) next) slot
+      (subst (λ (v : ℕ). HoldsLeast q y (length (drop v work)) (first + l) low (reachAt top work 0 l) next) on (inv .row)))) in
       let feed : Feeds y (first + i) (w ∷ ws) = subst (λ (x : List SlotWork). Feeds y (first + i) x) here (feeds-drop y first work i fed) in
       let is : (e : ℕ) → low′ ≤ e → e ≤ reachAt top work 0 i → least q (decisions y) (length (drop i work)) (first + i) e ≡ best (getD picks e 0) (getD row e (q .nought)) =
-          λ e h j. sym (picked e h j
-          ∙ ap (λ (v : ℕ). bestTried q (y .charge (first + i)) (w .arrived) v next (y .speeds) e) need-is
-          ∙ row-least q y top tops w ws (first + i) e (reachAt top work 0 i) next feed after j
-          ∙ ap (λ (x : List SlotWork). least q (decisions y) (length x) (first + i) e) (sym here)) in
+      λ e h j. sym (picked e h j
+      ∙ ap (λ (v : ℕ). bestTried q (y .charge (first + i)) (w .arrived) v next (y .speeds) e) need-is
+      ∙ row-least q y top tops w ws (first + i) e (reachAt top work 0 i) next feed after j
+      ∙ ap (λ (x : List SlotWork). least q (decisions y) (length x) (first + i) e) (sym here)) in
       let a = i * width in
       let b = (i + 1) * width in
       let next-row : b ≡ a + width = add-mul i 1 width ∙ ap (λ (v : ℕ). a + v) (one-mul width) in
@@ -118,8 +118,8 @@ module _ {M : Type 0} (q : Kind M) (y : Pump) (top : ℕ) (tops : (s : ℕ) → 
             let same : i ≡ j = omega arith in
             let P : ℕ → Type 0 = λ v. lowFor top (drop v work) ≤ e → e ≤ reachAt top work 0 v → (m : M) × (least q (decisions y) (length (drop v work)) (first + v) e ≡ best (getD table′ (v * width + e) 0) m) in
             let at : P i = λ f t.
-                let under : reachAt top work 0 i ≤ mostArrived work = omega (arith, reach-most top work 0 i) in
-                (getD row e (q .nought), is e (omega arith) t ∙ ap (λ (v : ℕ). best v (getD row e (q .nought))) (sym (row-in bytes picks a b width e (omega arith) size (omega arith)))) in
+            let under : reachAt top work 0 i ≤ mostArrived work = omega (arith, reach-most top work 0 i) in
+            (getD row e (q .nought), is e (omega arith) t ∙ ap (λ (v : ℕ). best v (getD row e (q .nought))) (sym (row-in bytes picks a b width e (omega arith) size (omega arith)))) in
             subst P same at from to)
             (cases-lt i j);
       }

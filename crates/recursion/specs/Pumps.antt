@@ -7,8 +7,8 @@ use Prim.Native.Nat.{ℕ, suc, _+_, _≤_, min}
 use lib.Dec.{leb}
 use lib.ListN.{length}
 use Rattle.measure.specs.Kinds.{Kind, measureOf}
-use Rattle.recursion.specs.Staged.{Staged, In, least, planned, Rising}
-use Rattle.recursion.specs.Optimality.{IsLeast, Fit}
+use Rattle.recursion.specs.Staged.{Staged, In, planned}
+use Rattle.recursion.specs.Optimality.{IsLeast}
 
 -- what planning knows of a stay
 pub record Pump : Type 0 where

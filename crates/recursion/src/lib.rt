@@ -6,6 +6,7 @@ mod speeds;
 mod unplanned;
 mod windows;
 mod work;
+
 pub use laws::decisions_follow_the_recursion;
 pub use laws::planned_choices_are_best;
 pub use laws::planned_speeds_are_best;

@@ -1,22 +1,22 @@
 // Planning: the rows from the last slot back to the first, then the speeds read off from the first on.
 ghost use mathlib.Core.Path.{_≡_};
 ghost use mathlib.Core.Bool.{true};
-ghost use Prim.Native.Nat.{ℕ, _+_, _-_, _*_, _≤_, _<_, min};
+ghost use Prim.Native.Nat.{ℕ, _+_, _-_, _*_, _≤_, _<_, min, max};
 ghost use lib.ListN.{length, getD};
 ghost use Rattle.recursion.specs.Staged.{best, least};
-ghost use Rattle.recursion.specs.Planning.{planAnswer, placesAfter, Promised, KeptUnlessPlanned};
+ghost use Rattle.recursion.specs.Planning.{rowWidth, slotsWrong, memoryShort, planAnswer, placesAfter, Promised, KeptUnlessPlanned};
 ghost use Rattle.recursion.specs.Pumps.{decisions, plannedSpeeds};
 ghost use Rattle.recursion.specs.Speeds.{lawfulSpeeds};
-ghost use Rattle.recursion.specs.Work.{mostArrived, pumpOf};
+ghost use Rattle.recursion.specs.Work.{dueAt, mostArrived, pumpOf};
 ghost use Rattle.recursion.specs.Windows.{keepsUp, reachAt};
 ghost use Rattle.recursion.specs.Rows.{Picked, HoldsPlan, followed};
+use super::SlotWork;
+use super::Unplanned;
 use super::rows::charges_of;
 use super::rows::fill_row;
 use super::speeds::lawful;
 use super::windows::most_arrived;
 use super::windows::reach_at_top;
-use super::SlotWork;
-use super::Unplanned;
 use measure::Measure;
 use tariff::Tariff;
 
@@ -30,8 +30,27 @@ fn last_row<M: Measure>(row: &mut [M], high: usize)
     }
 }
 
+// The work that has to be done by the end of the slot at place i: what is due by then, and what the rest needs.
+fn needed_by(work: &[SlotWork], i: usize, low: usize) -> usize
+    requires { ⌜ i < length (now work) ⌝ }
+    ensures { λ r. ⌜ r ≡ max (dueAt (now (work .entry)) i) low ⌝ }
+{
+    (work[i].due as usize).max(low)
+}
+
 // Fills the row of a slot from that of the next one.
-fn fill_slot<T: Tariff, M: Measure>(tariff: &T, speeds: &[u8], slot: usize, arrived: usize, need: usize, next: &[M], low: usize, high: usize, row: &mut [M], picks: &mut [u8])
+fn fill_slot<T: Tariff, M: Measure>(
+    tariff: &T,
+    speeds: &[u8],
+    slot: usize,
+    arrived: usize,
+    need: usize,
+    next: &[M],
+    low: usize,
+    high: usize,
+    row: &mut [M],
+    picks: &mut [u8],
+)
     requires listed { ⌜ 0 < length (now speeds) ⌝ ∗ ⌜ length (now speeds) ≤ 16 ⌝ ∗ ⌜ ((i : ℕ) → getD (now speeds) i 0 ≤ 15) ⌝ ∗ ⌜ slot ≤ 95 ⌝ }
     requires inside { ⌜ arrived < length (now next) ⌝ ∗ ⌜ high < length (now row) ⌝ ∗ ⌜ high < length (now picks) ⌝ ∗ ⌜ high ≤ 65535 ⌝ ∗ ⌜ arrived ≤ 65535 ⌝ }
     requires enough { ⌜ need ≤ min (low + getD (now speeds) (length (now speeds) - 1) 0) arrived ⌝ }
@@ -43,7 +62,16 @@ fn fill_slot<T: Tariff, M: Measure>(tariff: &T, speeds: &[u8], slot: usize, arri
 
 // Fills the table of speeds, a row for each slot, and answers the least measure from the first slot on.
 // Of the measures only two rows are kept, the next slot's and this one's, in turn.
-fn fill<T: Tariff, M: Measure>(tariff: &T, speeds: &[u8], first: usize, work: &[SlotWork], reach: &[usize; 97], width: usize, bytes: &mut [u8], measures: &mut [M]) -> M
+fn fill<T: Tariff, M: Measure>(
+    tariff: &T,
+    speeds: &[u8],
+    first: usize,
+    work: &[SlotWork],
+    reach: &[usize; 97],
+    width: usize,
+    bytes: &mut [u8],
+    measures: &mut [M],
+) -> M
     requires listed { ⌜ lawfulSpeeds (now speeds) ≡ true ⌝ ∗ ⌜ first + length (now work) ≤ 96 ⌝ }
     requires wide { ⌜ width ≡ mostArrived (now work) + 1 ⌝ ∗ ⌜ width ≤ 65536 ⌝ }
     requires memory { ⌜ length (now work) * width ≤ length (now bytes) ⌝ ∗ ⌜ 2 * width ≤ length (now measures) ⌝ }
@@ -59,22 +87,40 @@ fn fill<T: Tariff, M: Measure>(tariff: &T, speeds: &[u8], first: usize, work: &[
     let mut low = 0usize;
     let mut in_odd = false;
     for i in (0..n).rev() {
-        let slot = work[i];
-        let need = (slot.due as usize).max(low);
+        let arrived = work[i].arrived as usize;
+        let need = needed_by(work, i, low);
         low = need.saturating_sub(top);
         let picks = &mut bytes[i * width..(i + 1) * width];
         if in_odd {
-            fill_slot(tariff, speeds, first + i, slot.arrived as usize, need, odd, low, reach[i], even, picks);
+            fill_slot(
+                tariff,
+                speeds,
+                first + i,
+                arrived,
+                need,
+                odd,
+                low,
+                reach[i],
+                even,
+                picks,
+            );
         } else {
-            fill_slot(tariff, speeds, first + i, slot.arrived as usize, need, even, low, reach[i], odd, picks);
+            fill_slot(
+                tariff,
+                speeds,
+                first + i,
+                arrived,
+                need,
+                even,
+                low,
+                reach[i],
+                odd,
+                picks,
+            );
         }
         in_odd = !in_odd;
     }
-    if in_odd {
-        odd[0]
-    } else {
-        even[0]
-    }
+    if in_odd { odd[0] } else { even[0] }
 }
 
 // Reads the speeds off the table, from work done 0 on.
@@ -91,26 +137,49 @@ fn follow(work: &[SlotWork], width: usize, table: &[u8], chosen: &mut [u8])
     }
 }
 
+// Whether the slots pass the 96th, or the places for the speeds are not as many.
+fn slots_wrong(first: usize, work: &[SlotWork], places: usize) -> bool
+    ensures { λ r. ⌜ r ≡ slotsWrong first (now (work .entry)) places ⌝ }
+{
+    first > 96 || work.len() > 96 - first || places != work.len()
+}
+
+// Whether the lent memory is short, for rows of a width.
+fn memory_short(work: &[SlotWork], width: usize, bytes: usize, measures: usize) -> bool
+    requires { ⌜ width ≡ rowWidth (now work) ⌝ ∗ ⌜ length (now work) ≤ 96 ⌝ ∗ ⌜ width ≤ 65536 ⌝ }
+    ensures { λ r. ⌜ r ≡ memoryShort (now (work .entry)) bytes measures ⌝ }
+{
+    bytes < work.len() * width || measures < 2 * width
+}
+
 /// Plans the cheapest speeds that keep every due slot.
 ///
 /// `work` is that of the slots left, the first of which has the number `first`; `chosen` has a place for each speed.
 /// The lent memory is a byte for each slot and work done, and two rows of measures; an accepted plan leaves there what
 /// it will. A refusal changes nothing.
-pub fn plan<T: Tariff, M: Measure>(tariff: &T, speeds: &[u8], first: usize, work: &[SlotWork], bytes: &mut [u8], measures: &mut [M], chosen: &mut [u8]) -> Result<M, Unplanned>
+pub fn plan<T: Tariff, M: Measure>(
+    tariff: &T,
+    speeds: &[u8],
+    first: usize,
+    work: &[SlotWork],
+    bytes: &mut [u8],
+    measures: &mut [M],
+    chosen: &mut [u8],
+) -> Result<M, Unplanned>
     ensures answer { λ r. ⌜ r ≡ planAnswer (M·Measure .kind) (pumpOf (now (speeds .entry)) first (now (work .entry)) (T·Tariff .charge (now (tariff .entry)))) first (now (work .entry)) (length (now (bytes .entry))) (length (now (measures .entry))) (length (now (chosen .entry))) ⌝ }
     ensures chosen { λ r. ⌜ now (chosen .exit) ≡ placesAfter r (plannedSpeeds (M·Measure .kind) (pumpOf (now (speeds .entry)) first (now (work .entry)) (T·Tariff .charge (now (tariff .entry)))) (length (now (work .entry))) first 0) (now (chosen .entry)) ⌝ }
     ensures promise { λ r. ⌜ Promised (M·Measure .kind) (pumpOf (now (speeds .entry)) first (now (work .entry)) (T·Tariff .charge (now (tariff .entry)))) (length (now (work .entry))) first (now (chosen .exit)) r ⌝ }
     ensures bytes { λ r. ⌜ KeptUnlessPlanned r (now (bytes .entry)) (now (bytes .exit)) ⌝ }
     ensures measures { λ r. ⌜ KeptUnlessPlanned r (now (measures .entry)) (now (measures .exit)) ⌝ }
 {
-    if first > 96 || work.len() > 96 - first || chosen.len() != work.len() {
+    if slots_wrong(first, work, chosen.len()) {
         return Err(Unplanned::Slots);
     }
     if !lawful(speeds) {
         return Err(Unplanned::Speeds);
     }
     let width = most_arrived(work) as usize + 1;
-    if bytes.len() < work.len() * width || measures.len() < 2 * width {
+    if memory_short(work, width, bytes.len(), measures.len()) {
         return Err(Unplanned::Memory);
     }
     let Some(reach) = reach_at_top(work, speeds[speeds.len() - 1]) else {

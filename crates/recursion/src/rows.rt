@@ -20,7 +20,16 @@ pub(crate) fn charges_of<T: Tariff>(tariff: &T, speeds: &[u8], slot: usize) -> [
 }
 
 // Starts a row with one speed, which does at least as much as is needed.
-fn start_row<M: Measure>(speed: u8, measure: M, arrived: usize, next: &[M], low: usize, high: usize, row: &mut [M], picks: &mut [u8])
+fn start_row<M: Measure>(
+    speed: u8,
+    measure: M,
+    arrived: usize,
+    next: &[M],
+    low: usize,
+    high: usize,
+    row: &mut [M],
+    picks: &mut [u8],
+)
     requires inside { ⌜ arrived < length (now next) ⌝ ∗ ⌜ high < length (now row) ⌝ ∗ ⌜ high < length (now picks) ⌝ ∗ ⌜ high ≤ 65535 ⌝ }
     ensures { λ _. ⌜ ((need : ℕ) → need ≤ min (low + speed) arrived → (e : ℕ) → low ≤ e → e ≤ high → best (getD (now (picks .exit)) e 0) (getD (now (row .exit)) e (M·Measure .kind .nought)) ≡ offer (M·Measure .kind) measure arrived need (now (next .entry)) speed e) ⌝ }
 {
@@ -31,14 +40,29 @@ fn start_row<M: Measure>(speed: u8, measure: M, arrived: usize, next: &[M], low:
     }
 }
 
+// Whether what a lower speed comes to takes the place of what is held: so it does where they are level.
+fn takes_place<M: Measure>(here: M, held: M) -> bool
+    ensures { λ r. ⌜ r ≡ M·Measure .kind .notAbove here held ⌝ }
+{
+    here.not_above(held)
+}
+
 // Lowers a row where the speed leaves work to do: it is met in full.
-fn lower_in_full<M: Measure>(speed: u8, measure: M, next: &[M], from: usize, to: usize, row: &mut [M], picks: &mut [u8])
+fn lower_in_full<M: Measure>(
+    speed: u8,
+    measure: M,
+    next: &[M],
+    from: usize,
+    to: usize,
+    row: &mut [M],
+    picks: &mut [u8],
+)
     requires inside { ⌜ ((e : ℕ) → from ≤ e → e < to → e + speed < length (now next)) ⌝ ∗ ⌜ from ≤ to ⌝ ∗ ⌜ to ≤ length (now row) ⌝ ∗ ⌜ to ≤ length (now picks) ⌝ ∗ ⌜ to ≤ 65536 ⌝ }
     ensures { λ _. ⌜ Lowered (M·Measure .kind) (λ e. best speed (M·Measure .kind .join measure (getD (now (next .entry)) (e + speed) (M·Measure .kind .nought)))) from to (now (picks .entry)) (now (row .entry)) (now (picks .exit)) (now (row .exit)) ⌝ }
 {
     for done in from..to {
         let here = measure.join(next[done + speed as usize]);
-        if here.not_above(row[done]) {
+        if takes_place(here, row[done]) {
             row[done] = here;
             picks[done] = speed;
         }
@@ -46,12 +70,19 @@ fn lower_in_full<M: Measure>(speed: u8, measure: M, next: &[M], from: usize, to:
 }
 
 // Lowers a row where the speed does all that has arrived: it comes to one measure.
-fn lower_at_once<M: Measure>(speed: u8, measure: M, from: usize, to: usize, row: &mut [M], picks: &mut [u8])
+fn lower_at_once<M: Measure>(
+    speed: u8,
+    measure: M,
+    from: usize,
+    to: usize,
+    row: &mut [M],
+    picks: &mut [u8],
+)
     requires inside { ⌜ from ≤ to ⌝ ∗ ⌜ to ≤ length (now row) ⌝ ∗ ⌜ to ≤ length (now picks) ⌝ }
     ensures { λ _. ⌜ Lowered (M·Measure .kind) (λ e. best speed measure) from to (now (picks .entry)) (now (row .entry)) (now (picks .exit)) (now (row .exit)) ⌝ }
 {
     for done in from..to {
-        if measure.not_above(row[done]) {
+        if takes_place(measure, row[done]) {
             row[done] = measure;
             picks[done] = speed;
         }
@@ -59,7 +90,17 @@ fn lower_at_once<M: Measure>(speed: u8, measure: M, from: usize, to: usize, row:
 }
 
 // Lowers a row by one speed: not where it does less than is needed, in full where that leaves work, at once from there on.
-fn lower_row<M: Measure>(speed: u8, measure: M, arrived: usize, need: usize, next: &[M], low: usize, high: usize, row: &mut [M], picks: &mut [u8])
+fn lower_row<M: Measure>(
+    speed: u8,
+    measure: M,
+    arrived: usize,
+    need: usize,
+    next: &[M],
+    low: usize,
+    high: usize,
+    row: &mut [M],
+    picks: &mut [u8],
+)
     requires inside { ⌜ arrived < length (now next) ⌝ ∗ ⌜ high < length (now row) ⌝ ∗ ⌜ high < length (now picks) ⌝ ∗ ⌜ high ≤ 65535 ⌝ ∗ ⌜ arrived ≤ 65535 ⌝ }
     requires enough { ⌜ need ≤ arrived ⌝ }
     ensures { λ _. ⌜ ((e : ℕ) → low ≤ e → e ≤ high → best (getD (now (picks .exit)) e 0) (getD (now (row .exit)) e (M·Measure .kind .nought)) ≡ lower (M·Measure .kind) (offer (M·Measure .kind) measure arrived need (now (next .entry)) speed e) (best (getD (now (picks .entry)) e 0) (getD (now (row .entry)) e (M·Measure .kind .nought)))) ⌝ }
@@ -74,15 +115,44 @@ fn lower_row<M: Measure>(speed: u8, measure: M, arrived: usize, need: usize, nex
 
 // Fills a row from low to high: at each work done the lowest speed that comes to the least, of those that do as much as
 // is needed. Top speed does as much from low on. The speeds are taken from the top down, each over the whole row.
-pub(crate) fn fill_row<M: Measure>(speeds: &[u8], charges: &[u32; 16], arrived: usize, need: usize, next: &[M], low: usize, high: usize, row: &mut [M], picks: &mut [u8])
+pub(crate) fn fill_row<M: Measure>(
+    speeds: &[u8],
+    charges: &[u32; 16],
+    arrived: usize,
+    need: usize,
+    next: &[M],
+    low: usize,
+    high: usize,
+    row: &mut [M],
+    picks: &mut [u8],
+)
     requires listed { ⌜ 0 < length (now speeds) ⌝ ∗ ⌜ length (now speeds) ≤ 16 ⌝ }
     requires inside { ⌜ arrived < length (now next) ⌝ ∗ ⌜ high < length (now row) ⌝ ∗ ⌜ high < length (now picks) ⌝ ∗ ⌜ high ≤ 65535 ⌝ ∗ ⌜ arrived ≤ 65535 ⌝ }
     requires enough { ⌜ need ≤ min (low + getD (now speeds) (length (now speeds) - 1) 0) arrived ⌝ }
     ensures { λ _. ⌜ ((charge : ℕ → ℕ) → Charged charge (now (speeds .entry)) (now (charges .entry)) → Picked (M·Measure .kind) charge arrived need (now (next .entry)) (now (speeds .entry)) low high (now (row .exit)) (now (picks .exit))) ⌝ }
 {
     let last = speeds.len() - 1;
-    start_row(speeds[last], M::of(charges[last]), arrived, next, low, high, row, picks);
+    start_row(
+        speeds[last],
+        M::of(charges[last]),
+        arrived,
+        next,
+        low,
+        high,
+        row,
+        picks,
+    );
     for i in (0..last).rev() {
-        lower_row(speeds[i], M::of(charges[i]), arrived, need, next, low, high, row, picks);
+        lower_row(
+            speeds[i],
+            M::of(charges[i]),
+            arrived,
+            need,
+            next,
+            low,
+            high,
+            row,
+            picks,
+        );
     }
 }

@@ -1,5 +1,4 @@
 -- Words: within a bound, the bounds of what a tariff is made from, what each tariff charges.
-use mathlib.Core.Path.{_≡_}
 use mathlib.Core.Bool.{Bool, true, _&&_}
 use mathlib.Core.List.{List, [], _∷_}
 use Prim.Native.Nat.{ℕ, _+_, _*_, _≤_, min}

@@ -3,10 +3,10 @@ ghost use mathlib.Core.Path.{_≡_};
 ghost use lib.ListN.{getD};
 ghost use Rattle.tariff.specs.Bounds.{allWithin, energyBound};
 ghost use Rattle.tariff.specs.Checks.{energiesOf, told, unlessPast};
-use super::bounds::within;
 use super::Energies;
 use super::Tariff;
 use super::TariffRefusal;
+use super::bounds::within;
 
 impl Energies {
     /// The energies, refused if one passes 1,000,000.

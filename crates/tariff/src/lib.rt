@@ -9,6 +9,7 @@ mod cubic_drive;
 mod energy_table;
 mod price_list;
 mod refusal;
+
 pub use bounds::bounds_are_tested_exactly;
 pub use checked::Coefficients;
 pub use checked::Energies;

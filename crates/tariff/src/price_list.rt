@@ -3,10 +3,10 @@ ghost use mathlib.Core.Path.{_≡_};
 ghost use lib.ListN.{getD};
 ghost use Rattle.tariff.specs.Bounds.{allWithin, priceBound, priced};
 ghost use Rattle.tariff.specs.Checks.{pricesOf, told, unlessPast};
-use super::bounds::within;
 use super::Prices;
 use super::Tariff;
 use super::TariffRefusal;
+use super::bounds::within;
 
 impl Prices {
     /// The prices, refused if one passes 1,000. No tariff is handed in, so none can be lost by a refusal.

@@ -1,7 +1,7 @@
 use mathlib.Core.Bool.{Bool, cond, not}
 use mathlib.Core.List.{List}
-use mathlib.Core.Path.{_≡_, refl, sym, ap, subst, _∙_}
-use Prim.Native.Nat.{ℕ, _+_, _-_, _*_, _≤_, _<_}
+use mathlib.Core.Path.{_≡_, sym, subst, _∙_}
+use Prim.Native.Nat.{ℕ, _+_, _-_, _*_, _≤_}
 use native.Mathlib.Nat.{mul-le-mul-right}
 use native.Mathlib.Omega.{arith}
 use lib.ListN.{length, getD}
@@ -46,7 +46,7 @@ fill-slot-requires g c κs =
     let i = c .loop-i .i in
     let top = getD speeds (length speeds - 1) 0 in
     let l = lawful-gives speeds (c .pre .listed .0) in
-    let a = asked top work (c .loop-i .low) i (c .max-need .result) (c .saturating-sub-low .result) (c .args .width) (omega arith) (omega arith) (c .pre .possible) (c .loop-i .inv .low-is) (c .max-need .ensures) (c .saturating-sub-low .ensures) (c .pre .wide .0) in
+    let a = asked top work (c .loop-i .low) i (c .needed-by-need .result) (c .saturating-sub-low .result) (c .args .width) (omega arith) (omega arith) (c .pre .possible) (c .loop-i .inv .low-is) (c .needed-by-need .ensures) (c .saturating-sub-low .ensures) (c .pre .wide .0) in
     let high : getD (c .args .reach .now) (i - 1) 0 ≡ reachAt top work 0 (i - 1) = c .pre .reached (i - 1) (omega arith) in
     let even : length (c .loop-i .even) ≡ c .args .width = omega (arith, c .loop-i .kept .even, c .last-row .kept .row, c .split-at-mut-even .ensures .front-len) in
     let odd : c .args .width ≤ length (c .loop-i .odd) = omega (arith, c .loop-i .kept .odd, c .split-at-mut-even .ensures .back-len, c .pre .memory .1) in
@@ -63,7 +63,7 @@ fill-slot-requires-else-in-odd g c κs =
     let i = c .loop-i .i in
     let top = getD speeds (length speeds - 1) 0 in
     let l = lawful-gives speeds (c .pre .listed .0) in
-    let a = asked top work (c .loop-i .low) i (c .max-need .result) (c .saturating-sub-low .result) (c .args .width) (omega arith) (omega arith) (c .pre .possible) (c .loop-i .inv .low-is) (c .max-need .ensures) (c .saturating-sub-low .ensures) (c .pre .wide .0) in
+    let a = asked top work (c .loop-i .low) i (c .needed-by-need .result) (c .saturating-sub-low .result) (c .args .width) (omega arith) (omega arith) (c .pre .possible) (c .loop-i .inv .low-is) (c .needed-by-need .ensures) (c .saturating-sub-low .ensures) (c .pre .wide .0) in
     let high : getD (c .args .reach .now) (i - 1) 0 ≡ reachAt top work 0 (i - 1) = c .pre .reached (i - 1) (omega arith) in
     let even : length (c .loop-i .even) ≡ c .args .width = omega (arith, c .loop-i .kept .even, c .last-row .kept .row, c .split-at-mut-even .ensures .front-len) in
     let odd : c .args .width ≤ length (c .loop-i .odd) = omega (arith, c .loop-i .kept .odd, c .split-at-mut-even .ensures .back-len, c .pre .memory .1) in
@@ -84,26 +84,25 @@ loop-i-again g c =
     let y = pumpOf speeds first work charge in
     let top = getD speeds (length speeds - 1) 0 in
     let i = c .loop-i .i in
-    let need-of = c .max-need .result in
+    let need-of = c .needed-by-need .result in
     let low = c .saturating-sub-low .result in
     let l = lawful-gives speeds (c .pre .listed .0) in
-    let a = asked top work (c .loop-i .low) i need-of low width (omega arith) (omega arith) (c .pre .possible) (c .loop-i .inv .low-is) (c .max-need .ensures) (c .saturating-sub-low .ensures) (c .pre .wide .0) in
+    let a = asked top work (c .loop-i .low) i need-of low width (omega arith) (omega arith) (c .pre .possible) (c .loop-i .inv .low-is) (c .needed-by-need .ensures) (c .saturating-sub-low .ensures) (c .pre .wide .0) in
     let high : getD (c .args .reach .now) (i - 1) 0 ≡ reachAt top work 0 (i - 1) = c .pre .reached (i - 1) (omega arith) in
     let F : List (g .M .Denot) → List ℕ → ℕ → ℕ → Type 0 = λ r bs lo k. Filled q y top first work width r bs lo k in
     elim (c .if-in-odd .came) [
-      then-in-odd w ↦
-        let before : F (c .loop-i .odd) (c .loop-i .bytes) (c .loop-i .low) i = subst (λ (b : Bool). F (cond b (c .loop-i .odd) (c .loop-i .even)) (c .loop-i .bytes) (c .loop-i .low) i) (w .if-in-odd .taken) (c .loop-i .inv) in
-        let picked = subst (λ (v : ℕ). Picked q (charge (first + (i - 1))) (arrivedAt work (i - 1)) need-of (c .loop-i .odd) speeds low v (w .fill-slot .last .row) (w .fill-slot .last .picks)) high (w .fill-slot .ensures) in
-        let after = filled-next q y top (l .under-top) first work (feeds-pump speeds first work charge) width i (c .loop-i .odd) (w .fill-slot .last .row) (c .loop-i .bytes) (w .fill-slot .last .picks) (c .loop-i .low) need-of low (omega arith) (omega arith) before (c .max-need .ensures) (c .saturating-sub-low .ensures) (omega (arith, c .pre .wide .0)) (w .fill-slot .kept .picks ∙ row-size (c .loop-i .bytes) ((i - 1) * width) ((i - 1 + 1) * width) width (a .wide) (omega (arith, a .last, c .loop-i .kept .bytes, c .pre .memory .0))) (omega (arith, c .loop-i .kept .bytes, c .pre .memory .0)) picked in
-        subst (λ (b : Bool). F (cond (not b) (c .if-in-odd .odd) (c .if-in-odd .even)) (c .if-in-odd .bytes) low (i - 1)) (sym (w .if-in-odd .taken))
-        (subst (λ (r : List (g .M .Denot)). F r (c .if-in-odd .bytes) low (i - 1)) (sym (w .even-is)) (subst (λ (bs : List ℕ). F (w .fill-slot .last .row) bs low (i - 1)) (sym (w .bytes-is)) after))
-    |
-      else-in-odd w ↦
-        let before : F (c .loop-i .even) (c .loop-i .bytes) (c .loop-i .low) i = subst (λ (b : Bool). F (cond b (c .loop-i .odd) (c .loop-i .even)) (c .loop-i .bytes) (c .loop-i .low) i) (w .if-in-odd .left) (c .loop-i .inv) in
-        let picked = subst (λ (v : ℕ). Picked q (charge (first + (i - 1))) (arrivedAt work (i - 1)) need-of (c .loop-i .even) speeds low v (w .fill-slot-else-in-odd .last .row) (w .fill-slot-else-in-odd .last .picks)) high (w .fill-slot-else-in-odd .ensures) in
-        let after = filled-next q y top (l .under-top) first work (feeds-pump speeds first work charge) width i (c .loop-i .even) (w .fill-slot-else-in-odd .last .row) (c .loop-i .bytes) (w .fill-slot-else-in-odd .last .picks) (c .loop-i .low) need-of low (omega arith) (omega arith) before (c .max-need .ensures) (c .saturating-sub-low .ensures) (omega (arith, c .pre .wide .0)) (w .fill-slot-else-in-odd .kept .picks ∙ row-size (c .loop-i .bytes) ((i - 1) * width) ((i - 1 + 1) * width) width (a .wide) (omega (arith, a .last, c .loop-i .kept .bytes, c .pre .memory .0))) (omega (arith, c .loop-i .kept .bytes, c .pre .memory .0)) picked in
-        subst (λ (b : Bool). F (cond (not b) (c .if-in-odd .odd) (c .if-in-odd .even)) (c .if-in-odd .bytes) low (i - 1)) (sym (w .if-in-odd .left))
-        (subst (λ (r : List (g .M .Denot)). F r (c .if-in-odd .bytes) low (i - 1)) (sym (w .odd-is)) (subst (λ (bs : List ℕ). F (w .fill-slot-else-in-odd .last .row) bs low (i - 1)) (sym (w .bytes-is)) after))
+      | then-in-odd w ↦
+          let before : F (c .loop-i .odd) (c .loop-i .bytes) (c .loop-i .low) i = subst (λ (b : Bool). F (cond b (c .loop-i .odd) (c .loop-i .even)) (c .loop-i .bytes) (c .loop-i .low) i) (w .if-in-odd .taken) (c .loop-i .inv) in
+          let picked = subst (λ (v : ℕ). Picked q (charge (first + (i - 1))) (arrivedAt work (i - 1)) need-of (c .loop-i .odd) speeds low v (w .fill-slot .last .row) (w .fill-slot .last .picks)) high (w .fill-slot .ensures) in
+          let after = filled-next q y top (l .under-top) first work (feeds-pump speeds first work charge) width i (c .loop-i .odd) (w .fill-slot .last .row) (c .loop-i .bytes) (w .fill-slot .last .picks) (c .loop-i .low) need-of low (omega arith) (omega arith) before (c .needed-by-need .ensures) (c .saturating-sub-low .ensures) (omega (arith, c .pre .wide .0)) (w .fill-slot .kept .picks ∙ row-size (c .loop-i .bytes) ((i - 1) * width) ((i - 1 + 1) * width) width (a .wide) (omega (arith, a .last, c .loop-i .kept .bytes, c .pre .memory .0))) (omega (arith, c .loop-i .kept .bytes, c .pre .memory .0)) picked in
+          subst (λ (b : Bool). F (cond (not b) (c .if-in-odd .odd) (c .if-in-odd .even)) (c .if-in-odd .bytes) low (i - 1)) (sym (w .if-in-odd .taken))
+          (subst (λ (r : List (g .M .Denot)). F r (c .if-in-odd .bytes) low (i - 1)) (sym (w .even-is)) (subst (λ (bs : List ℕ). F (w .fill-slot .last .row) bs low (i - 1)) (sym (w .bytes-is)) after))
+      | else-in-odd w ↦
+          let before : F (c .loop-i .even) (c .loop-i .bytes) (c .loop-i .low) i = subst (λ (b : Bool). F (cond b (c .loop-i .odd) (c .loop-i .even)) (c .loop-i .bytes) (c .loop-i .low) i) (w .if-in-odd .left) (c .loop-i .inv) in
+          let picked = subst (λ (v : ℕ). Picked q (charge (first + (i - 1))) (arrivedAt work (i - 1)) need-of (c .loop-i .even) speeds low v (w .fill-slot-else-in-odd .last .row) (w .fill-slot-else-in-odd .last .picks)) high (w .fill-slot-else-in-odd .ensures) in
+          let after = filled-next q y top (l .under-top) first work (feeds-pump speeds first work charge) width i (c .loop-i .even) (w .fill-slot-else-in-odd .last .row) (c .loop-i .bytes) (w .fill-slot-else-in-odd .last .picks) (c .loop-i .low) need-of low (omega arith) (omega arith) before (c .needed-by-need .ensures) (c .saturating-sub-low .ensures) (omega (arith, c .pre .wide .0)) (w .fill-slot-else-in-odd .kept .picks ∙ row-size (c .loop-i .bytes) ((i - 1) * width) ((i - 1 + 1) * width) width (a .wide) (omega (arith, a .last, c .loop-i .kept .bytes, c .pre .memory .0))) (omega (arith, c .loop-i .kept .bytes, c .pre .memory .0)) picked in
+          subst (λ (b : Bool). F (cond (not b) (c .if-in-odd .odd) (c .if-in-odd .even)) (c .if-in-odd .bytes) low (i - 1)) (sym (w .if-in-odd .left))
+          (subst (λ (r : List (g .M .Denot)). F r (c .if-in-odd .bytes) low (i - 1)) (sym (w .odd-is)) (subst (λ (bs : List ℕ). F (w .fill-slot-else-in-odd .last .row) bs low (i - 1)) (sym (w .bytes-is)) after))
     ]
 
 pub returns-then-in-odd-2 : need.returns-then-in-odd-2

@@ -1,7 +1,5 @@
-use mathlib.Core.Path.{_≡_}
 use mathlib.Core.Bool.{cond}
-use Prim.Native.Nat.{_≤_, _<_, _-_}
-use lib.ListN.{length, getD}
+use Prim.Native.Nat.{_-_}
 use Rattle.recursion.specs.Work.{pumpOf}
 use Rattle.recursion.proofs.Tables.{Filled}
 use Rattle.recursion.proofs.planning.fill.Given as given

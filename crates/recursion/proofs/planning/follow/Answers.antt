@@ -9,10 +9,10 @@ index-table-i c =
 
 pub loop-i-again : need.loop-i-again
 loop-i-again c = (
-    follow-step (c .args .width) (c .args .table .now) (c .args .work .now) (c .loop-i .chosen) (c .loop-i .i) (c .loop-i .done) _ (c .min-done .result) (c .loop-i-test .taken) (omega arith) refl (c .min-done .ensures)
-    ∙ c .loop-i .inv .0,
-    omega (arith, most-at (c .args .work .now) (c .loop-i .i), c .min-done .ensures),
-  )
+  follow-step (c .args .width) (c .args .table .now) (c .args .work .now) (c .loop-i .chosen) (c .loop-i .i) (c .loop-i .done) _ (c .min-done .result) (c .loop-i-test .taken) (omega arith) refl (c .min-done .ensures)
+      ∙ c .loop-i .inv .0,
+  omega (arith, most-at (c .args .work .now) (c .loop-i .i), c .min-done .ensures),
+)
 
 pub returns : need.returns
 returns c =

@@ -1,8 +1,7 @@
 use mathlib.Core.Path.{_≡_, refl, sym, ap, subst, _∙_}
 use mathlib.Core.Bool.{true}
 use mathlib.Core.List.{List}
-use Prim.Native.Nat.{ℕ, _+_, _-_, _*_, _≤_}
-use native.Mathlib.Omega.{arith}
+use Prim.Native.Nat.{ℕ, _+_, _-_}
 use lib.ListN.{length, getD}
 use Rattle.recursion.specs.Planning.{leastOr}
 use Rattle.recursion.specs.Pumps.{PlanIsBest, plannedSpeeds}
@@ -28,11 +27,8 @@ returns-in-rest g c =
     let lawful : lawfulSpeeds speeds ≡ true = sym (c .if-not-lawful .ensures tt) in
     let top = getD speeds (length speeds - 1) 0 in
     let nothing = late-none laws y top (lawful-gives speeds lawful .under-top) first work (feeds-pump speeds first work charge) (c .in-rest .ensures tt) in
-    let wide = c .most-arrived .ensures in
     record {
-      answer = sym (answer-least q y first work (length (c .args .bytes .now)) (length (c .args .measures .now)) (length (c .args .chosen .now)) (c .if-first-gt96 .left) (c .if-work-first .left) (c .if-chosen-work .left) lawful
-          (subst (λ (v : ℕ). length work * (v + 1) ≤ length (c .args .bytes .now)) wide (c .if-bytes-work .left))
-          (subst (λ (v : ℕ). 2 * (v + 1) ≤ length (c .args .measures .now)) wide (c .if-measures-width .left))
+      answer = sym (answer-least q y first work (length (c .args .bytes .now)) (length (c .args .measures .now)) (length (c .args .chosen .now)) (sym (c .if-slots-wrong .ensures tt)) lawful (sym (c .if-memory-short .ensures tt))
           ∙ ap leastOr nothing);
       chosen = refl;
       promise = λ ss in-time. let w = pump-optimal laws y (length work) first 0 .exists ss in-time in none-best (w .0) (w .1) (sym nothing ∙ w .2);
@@ -51,14 +47,11 @@ returns g c =
     let y = pumpOf speeds first work charge in
     let lawful : lawfulSpeeds speeds ≡ true = sym (c .if-not-lawful .ensures tt) in
     let top = getD speeds (length speeds - 1) 0 in
-    let wide = c .most-arrived .ensures in
     let least-is = c .fill-least .ensures .answer in
     let chosen : c .follow .last .chosen ≡ plannedSpeeds q y (length work) first 0 =
-        c .follow .ensures ∙ first-planned laws y top (lawful-gives speeds lawful .under-top) first work (feeds-pump speeds first work charge) (c .in-Some .ensures tt .0) (c .most-arrived .result + 1) (c .fill-least .last .bytes) (c .fill-least .ensures .table) in
+    c .follow .ensures ∙ first-planned laws y top (lawful-gives speeds lawful .under-top) first work (feeds-pump speeds first work charge) (c .in-Some .ensures tt .0) (c .most-arrived .result + 1) (c .fill-least .last .bytes) (c .fill-least .ensures .table) in
     record {
-      answer = sym (answer-least q y first work (length (c .args .bytes .now)) (length (c .args .measures .now)) (length (c .args .chosen .now)) (c .if-first-gt96 .left) (c .if-work-first .left) (c .if-chosen-work .left) lawful
-          (subst (λ (v : ℕ). length work * (v + 1) ≤ length (c .args .bytes .now)) wide (c .if-bytes-work .left))
-          (subst (λ (v : ℕ). 2 * (v + 1) ≤ length (c .args .measures .now)) wide (c .if-measures-width .left))
+      answer = sym (answer-least q y first work (length (c .args .bytes .now)) (length (c .args .measures .now)) (length (c .args .chosen .now)) (sym (c .if-slots-wrong .ensures tt)) lawful (sym (c .if-memory-short .ensures tt))
           ∙ ap leastOr (least-is .1));
       chosen = chosen;
       promise = subst (λ (ss : List ℕ). PlanIsBest q y (length work) first 0 (c .fill-least .result) ss) (sym chosen) (pump-optimal laws y (length work) first 0 .planned-is-best (least-is .0) (c .fill-least .result) (least-is .1));

@@ -7,7 +7,7 @@ use Rattle.recursion.specs.Staged.{Best, best}
 use Rattle.recursion.specs.Rows.{Lowered}
 use Rattle.recursion.proofs.Choosing.{lowered-none, lowered-turn}
 use Rattle.recursion.proofs.rows.lower_at_once.Needs as need
-use Rattle.recursion.proofs.rows.lower_at_once.Needs.{then-not-above, else-not-above}
+use Rattle.recursion.proofs.rows.lower_at_once.Needs.{then-takes-place, else-takes-place}
 
 pub loop-done-holds : need.loop-done-holds
 loop-done-holds g c =
@@ -22,12 +22,12 @@ loop-done-again g c =
     let m = c .args .measure in
     let f : ℕ → Best (g .M .Denot) = λ e. best (c .args .speed) (c .args .measure) in
     let L : List ℕ → List (g .M .Denot) → Type 0 = λ p r. Lowered q f (c .args .from) (i + 1) (c .args .picks .now) (c .args .row .now) p r in
-    let turn = lowered-turn q f (c .args .from) i s m (c .index-row-done .result) (c .not-above .result) (c .args .picks .now) (c .args .row .now) (c .loop-done .picks) (c .loop-done .row) (omega arith) (omega arith) (omega arith) refl (c .index-row-done .is) (c .not-above .ensures) (c .loop-done .inv) in
-    elim (c .if-not-above .came) [
-      then-not-above w ↦
-        subst (λ (r : List (g .M .Denot)). L (c .if-not-above .picks) r) (sym (w .row-is)) (subst (λ (p : List ℕ). L p (set (c .loop-done .row) i m)) (sym (w .picks-is)) (turn .0 (w .if-not-above .taken)))
-    | else-not-above w ↦
-        subst (λ (r : List (g .M .Denot)). L (c .if-not-above .picks) r) (sym (w .row-is)) (subst (λ (p : List ℕ). L p (c .loop-done .row)) (sym (w .picks-is)) (turn .1 (w .if-not-above .left)))
+    let turn = lowered-turn q f (c .args .from) i s m (c .index-row-done .result) (c .takes-place .result) (c .args .picks .now) (c .args .row .now) (c .loop-done .picks) (c .loop-done .row) (omega arith) (omega arith) (omega arith) refl (c .index-row-done .is) (c .takes-place .ensures) (c .loop-done .inv) in
+    elim (c .if-takes-place .came) [
+      | then-takes-place w ↦
+          subst (λ (r : List (g .M .Denot)). L (c .if-takes-place .picks) r) (sym (w .row-is)) (subst (λ (p : List ℕ). L p (set (c .loop-done .row) i m)) (sym (w .picks-is)) (turn .0 (w .if-takes-place .taken)))
+      | else-takes-place w ↦
+          subst (λ (r : List (g .M .Denot)). L (c .if-takes-place .picks) r) (sym (w .row-is)) (subst (λ (p : List ℕ). L p (c .loop-done .row)) (sym (w .picks-is)) (turn .1 (w .if-takes-place .left)))
     ]
 
 pub returns : need.returns

@@ -1,7 +1,6 @@
-use mathlib.Core.Path.{_≡_, sym, subst}
-use Prim.Native.Nat.{ℕ, _≤_, _<_, min, _+_}
+use mathlib.Core.Path.{subst}
+use Prim.Native.Nat.{ℕ, _≤_, _<_}
 use native.Mathlib.Omega.{arith}
-use lib.ListN.{getD}
 use borrow.Author.Needs.{needs}
 use Rattle.recursion.specs.Work.{arrivedAt, dueAt}
 use Rattle.recursion.proofs.Reaching.{reaching-first, reaching-stop, reaching-next, reaching-end}

@@ -1,5 +1,4 @@
 use mathlib.Core.Path.{sym, _∙_}
-use native.Mathlib.Omega.{arith}
 use Rattle.tariff.proofs.Tested.{within-step, within-stop, within-end}
 use Rattle.tariff.proofs.bounds.within.Needs as need
 
