@@ -1,0 +1,6 @@
+pub mod Faults
+pub mod Fields
+pub mod Laws
+pub mod Lines
+pub mod Numbers
+pub mod Reading
