@@ -154,7 +154,12 @@ mod tests {
     }
 
     // Plans by energy in as much memory as is asked; the places hold 9 before.
-    fn by_energy<T: Tariff>(tariff: &T, speeds: &[u8], work: &[SlotWork], bytes: usize) -> (Result<u64, Unplanned>, [u8; 4]) {
+    fn by_energy<T: Tariff>(
+        tariff: &T,
+        speeds: &[u8],
+        work: &[SlotWork],
+        bytes: usize,
+    ) -> (Result<u64, Unplanned>, [u8; 4]) {
         let mut memory = [7u8; 24];
         let mut measures = [Energy::nought(); 12];
         let mut chosen = [9u8; 4];
@@ -168,14 +173,38 @@ mod tests {
     #[test]
     fn plans_and_refusals() -> Result<(), Fail> {
         let table = worked_tariff()?;
-        check_eq(by_energy(&table, &SPEEDS, &WORK, 24), (Ok(24), [0, 3, 1, 1]))?;
-        check_eq(by_energy(&table, &SPEEDS, &NO_WORK, 24), (Ok(4), [0, 0, 0, 0]))?;
-        check_eq(by_energy(&table, &SPEEDS, &LATER_JOB, 24), (Ok(13), [0, 1, 1, 1]))?;
-        check_eq(by_energy(&table, &SPEEDS, &WORK, 23), (Err(Unplanned::Memory), [9, 9, 9, 9]))?;
-        check_eq(by_energy(&table, &[0, 3, 1], &WORK, 24), (Err(Unplanned::Speeds), [9, 9, 9, 9]))?;
-        check_eq(by_energy(&table, &[0, 16], &WORK, 24), (Err(Unplanned::Speeds), [9, 9, 9, 9]))?;
-        check_eq(by_energy(&table, &SPEEDS, &[SlotWork { due: 0, arrived: 0 }; 3], 24), (Err(Unplanned::Slots), [9, 9, 9, 9]))?;
-        check_eq(by_energy(&table, &SPEEDS, &TOO_LATE, 24), (Err(Unplanned::Late), [9, 9, 9, 9]))
+        check_eq(
+            by_energy(&table, &SPEEDS, &WORK, 24),
+            (Ok(24), [0, 3, 1, 1]),
+        )?;
+        check_eq(
+            by_energy(&table, &SPEEDS, &NO_WORK, 24),
+            (Ok(4), [0, 0, 0, 0]),
+        )?;
+        check_eq(
+            by_energy(&table, &SPEEDS, &LATER_JOB, 24),
+            (Ok(13), [0, 1, 1, 1]),
+        )?;
+        check_eq(
+            by_energy(&table, &SPEEDS, &WORK, 23),
+            (Err(Unplanned::Memory), [9, 9, 9, 9]),
+        )?;
+        check_eq(
+            by_energy(&table, &[0, 3, 1], &WORK, 24),
+            (Err(Unplanned::Speeds), [9, 9, 9, 9]),
+        )?;
+        check_eq(
+            by_energy(&table, &[0, 16], &WORK, 24),
+            (Err(Unplanned::Speeds), [9, 9, 9, 9]),
+        )?;
+        check_eq(
+            by_energy(&table, &SPEEDS, &[SlotWork { due: 0, arrived: 0 }; 3], 24),
+            (Err(Unplanned::Slots), [9, 9, 9, 9]),
+        )?;
+        check_eq(
+            by_energy(&table, &SPEEDS, &TOO_LATE, 24),
+            (Err(Unplanned::Late), [9, 9, 9, 9]),
+        )
     }
 
     #[test]
@@ -184,14 +213,25 @@ mod tests {
         let mut bytes = [0u8; 24];
         let mut peaks = [Peak::nought(); 12];
         let mut chosen = [0u8; 4];
-        let highest = plan(&table, &SPEEDS, 0, &WORK, &mut bytes, &mut peaks, &mut chosen)?;
+        let highest = plan(
+            &table,
+            &SPEEDS,
+            0,
+            &WORK,
+            &mut bytes,
+            &mut peaks,
+            &mut chosen,
+        )?;
         check_eq(highest.value(), 15)?;
         check_eq(chosen, [0, 3, 1, 1])?;
         let mut prices = [1u32; 96];
         prices[2] = 9;
         prices[3] = 9;
         let priced = PriceList::new(table, Prices::checked(prices)?);
-        check_eq(by_energy(&priced, &SPEEDS, &WORK, 24), (Ok(48), [3, 3, 0, 0]))?;
+        check_eq(
+            by_energy(&priced, &SPEEDS, &WORK, 24),
+            (Ok(48), [3, 3, 0, 0]),
+        )?;
         prices[95] = 1_001;
         check(Prices::checked(prices).is_err())?;
         let drive = CubicDrive::new(Coefficients::checked(10, 2, 1)?);
