@@ -15,6 +15,7 @@ use super::Unplanned;
 use super::rows::charges_of;
 use super::rows::fill_row;
 use super::speeds::lawful;
+use super::windows::Window;
 use super::windows::most_arrived;
 use super::windows::reach_at_top;
 use measure::Measure;
@@ -43,21 +44,18 @@ fn fill_slot<T: Tariff, M: Measure>(
     tariff: &T,
     speeds: &[u8],
     slot: usize,
-    arrived: usize,
-    need: usize,
+    window: Window,
     next: &[M],
-    low: usize,
-    high: usize,
     row: &mut [M],
     picks: &mut [u8],
 )
     requires listed { ⌜ 0 < length (now speeds) ⌝ ∗ ⌜ length (now speeds) ≤ 16 ⌝ ∗ ⌜ ((i : ℕ) → getD (now speeds) i 0 ≤ 15) ⌝ ∗ ⌜ slot ≤ 95 ⌝ }
-    requires inside { ⌜ arrived < length (now next) ⌝ ∗ ⌜ high < length (now row) ⌝ ∗ ⌜ high < length (now picks) ⌝ ∗ ⌜ high ≤ 65535 ⌝ ∗ ⌜ arrived ≤ 65535 ⌝ }
-    requires enough { ⌜ need ≤ min (low + getD (now speeds) (length (now speeds) - 1) 0) arrived ⌝ }
-    ensures { λ _. ⌜ Picked (M·Measure .kind) (T·Tariff .charge (now (tariff .entry)) slot) arrived need (now (next .entry)) (now (speeds .entry)) low high (now (row .exit)) (now (picks .exit)) ⌝ }
+    requires inside { ⌜ window .arrived < length (now next) ⌝ ∗ ⌜ window .high < length (now row) ⌝ ∗ ⌜ window .high < length (now picks) ⌝ ∗ ⌜ window .high ≤ 65535 ⌝ ∗ ⌜ window .arrived ≤ 65535 ⌝ }
+    requires enough { ⌜ window .need ≤ min (window .low + getD (now speeds) (length (now speeds) - 1) 0) (window .arrived) ⌝ }
+    ensures { λ _. ⌜ Picked (M·Measure .kind) (T·Tariff .charge (now (tariff .entry)) slot) (window .arrived) (window .need) (now (next .entry)) (now (speeds .entry)) (window .low) (window .high) (now (row .exit)) (now (picks .exit)) ⌝ }
 {
     let charges = charges_of(tariff, speeds, slot);
-    fill_row(speeds, &charges, arrived, need, next, low, high, row, picks);
+    fill_row(speeds, &charges, window, next, row, picks);
 }
 
 // Fills the table of speeds, a row for each slot, and answers the least measure from the first slot on.
@@ -87,36 +85,19 @@ fn fill<T: Tariff, M: Measure>(
     let mut low = 0usize;
     let mut in_odd = false;
     for i in (0..n).rev() {
-        let arrived = work[i].arrived as usize;
         let need = needed_by(work, i, low);
         low = need.saturating_sub(top);
+        let window = Window {
+            low,
+            high: reach[i],
+            need,
+            arrived: work[i].arrived as usize,
+        };
         let picks = &mut bytes[i * width..(i + 1) * width];
         if in_odd {
-            fill_slot(
-                tariff,
-                speeds,
-                first + i,
-                arrived,
-                need,
-                odd,
-                low,
-                reach[i],
-                even,
-                picks,
-            );
+            fill_slot(tariff, speeds, first + i, window, odd, even, picks);
         } else {
-            fill_slot(
-                tariff,
-                speeds,
-                first + i,
-                arrived,
-                need,
-                even,
-                low,
-                reach[i],
-                odd,
-                picks,
-            );
+            fill_slot(tariff, speeds, first + i, window, even, odd, picks);
         }
         in_odd = !in_odd;
     }

@@ -4,6 +4,7 @@ ghost use Prim.Native.Nat.{ℕ, _+_, _-_, _≤_, _<_, min};
 ghost use lib.ListN.{length, getD};
 ghost use Rattle.recursion.specs.Staged.{best, lower};
 ghost use Rattle.recursion.specs.Rows.{Charged, Lowered, offer, Picked};
+use super::windows::Window;
 use measure::Measure;
 use tariff::Tariff;
 
@@ -23,18 +24,17 @@ pub(crate) fn charges_of<T: Tariff>(tariff: &T, speeds: &[u8], slot: usize) -> [
 fn start_row<M: Measure>(
     speed: u8,
     measure: M,
-    arrived: usize,
+    window: Window,
     next: &[M],
-    low: usize,
-    high: usize,
     row: &mut [M],
     picks: &mut [u8],
 )
-    requires inside { ⌜ arrived < length (now next) ⌝ ∗ ⌜ high < length (now row) ⌝ ∗ ⌜ high < length (now picks) ⌝ ∗ ⌜ high ≤ 65535 ⌝ }
-    ensures { λ _. ⌜ ((need : ℕ) → need ≤ min (low + speed) arrived → (e : ℕ) → low ≤ e → e ≤ high → best (getD (now (picks .exit)) e 0) (getD (now (row .exit)) e (M·Measure .kind .nought)) ≡ offer (M·Measure .kind) measure arrived need (now (next .entry)) speed e) ⌝ }
+    requires inside { ⌜ window .arrived < length (now next) ⌝ ∗ ⌜ window .high < length (now row) ⌝ ∗ ⌜ window .high < length (now picks) ⌝ ∗ ⌜ window .high ≤ 65535 ⌝ }
+    requires enough { ⌜ window .need ≤ min (window .low + speed) (window .arrived) ⌝ }
+    ensures { λ _. ⌜ ((e : ℕ) → window .low ≤ e → e ≤ window .high → best (getD (now (picks .exit)) e 0) (getD (now (row .exit)) e (M·Measure .kind .nought)) ≡ offer (M·Measure .kind) measure (window .arrived) (window .need) (now (next .entry)) speed e) ⌝ }
 {
-    for done in low..high + 1 {
-        let then = (done + speed as usize).min(arrived);
+    for done in window.low..window.high + 1 {
+        let then = (done + speed as usize).min(window.arrived);
         row[done] = measure.join(next[then]);
         picks[done] = speed;
     }
@@ -93,66 +93,48 @@ fn lower_at_once<M: Measure>(
 fn lower_row<M: Measure>(
     speed: u8,
     measure: M,
-    arrived: usize,
-    need: usize,
+    window: Window,
     next: &[M],
-    low: usize,
-    high: usize,
     row: &mut [M],
     picks: &mut [u8],
 )
-    requires inside { ⌜ arrived < length (now next) ⌝ ∗ ⌜ high < length (now row) ⌝ ∗ ⌜ high < length (now picks) ⌝ ∗ ⌜ high ≤ 65535 ⌝ ∗ ⌜ arrived ≤ 65535 ⌝ }
-    requires enough { ⌜ need ≤ arrived ⌝ }
-    ensures { λ _. ⌜ ((e : ℕ) → low ≤ e → e ≤ high → best (getD (now (picks .exit)) e 0) (getD (now (row .exit)) e (M·Measure .kind .nought)) ≡ lower (M·Measure .kind) (offer (M·Measure .kind) measure arrived need (now (next .entry)) speed e) (best (getD (now (picks .entry)) e 0) (getD (now (row .entry)) e (M·Measure .kind .nought)))) ⌝ }
+    requires inside { ⌜ window .arrived < length (now next) ⌝ ∗ ⌜ window .high < length (now row) ⌝ ∗ ⌜ window .high < length (now picks) ⌝ ∗ ⌜ window .high ≤ 65535 ⌝ ∗ ⌜ window .arrived ≤ 65535 ⌝ }
+    requires enough { ⌜ window .need ≤ window .arrived ⌝ }
+    ensures { λ _. ⌜ ((e : ℕ) → window .low ≤ e → e ≤ window .high → best (getD (now (picks .exit)) e 0) (getD (now (row .exit)) e (M·Measure .kind .nought)) ≡ lower (M·Measure .kind) (offer (M·Measure .kind) measure (window .arrived) (window .need) (now (next .entry)) speed e) (best (getD (now (picks .entry)) e 0) (getD (now (row .entry)) e (M·Measure .kind .nought)))) ⌝ }
 {
     let s = speed as usize;
-    let end = high + 1;
-    let from = need.saturating_sub(s).max(low).min(end);
-    let mid = (arrived + 1).saturating_sub(s).max(from).min(end);
+    let end = window.high + 1;
+    let from = window.need.saturating_sub(s).max(window.low).min(end);
+    let mid = (window.arrived + 1).saturating_sub(s).max(from).min(end);
     lower_in_full(speed, measure, next, from, mid, row, picks);
-    lower_at_once(speed, measure.join(next[arrived]), mid, end, row, picks);
+    lower_at_once(
+        speed,
+        measure.join(next[window.arrived]),
+        mid,
+        end,
+        row,
+        picks,
+    );
 }
 
-// Fills a row from low to high: at each work done the lowest speed that comes to the least, of those that do as much as
-// is needed. Top speed does as much from low on. The speeds are taken from the top down, each over the whole row.
+// Fills a row: at each work done of the window the lowest speed that comes to the least, of those that do as much as is
+// needed. Top speed does as much from the low on. The speeds are taken from the top down, each over the whole row.
 pub(crate) fn fill_row<M: Measure>(
     speeds: &[u8],
     charges: &[u32; 16],
-    arrived: usize,
-    need: usize,
+    window: Window,
     next: &[M],
-    low: usize,
-    high: usize,
     row: &mut [M],
     picks: &mut [u8],
 )
     requires listed { ⌜ 0 < length (now speeds) ⌝ ∗ ⌜ length (now speeds) ≤ 16 ⌝ }
-    requires inside { ⌜ arrived < length (now next) ⌝ ∗ ⌜ high < length (now row) ⌝ ∗ ⌜ high < length (now picks) ⌝ ∗ ⌜ high ≤ 65535 ⌝ ∗ ⌜ arrived ≤ 65535 ⌝ }
-    requires enough { ⌜ need ≤ min (low + getD (now speeds) (length (now speeds) - 1) 0) arrived ⌝ }
-    ensures { λ _. ⌜ ((charge : ℕ → ℕ) → Charged charge (now (speeds .entry)) (now (charges .entry)) → Picked (M·Measure .kind) charge arrived need (now (next .entry)) (now (speeds .entry)) low high (now (row .exit)) (now (picks .exit))) ⌝ }
+    requires inside { ⌜ window .arrived < length (now next) ⌝ ∗ ⌜ window .high < length (now row) ⌝ ∗ ⌜ window .high < length (now picks) ⌝ ∗ ⌜ window .high ≤ 65535 ⌝ ∗ ⌜ window .arrived ≤ 65535 ⌝ }
+    requires enough { ⌜ window .need ≤ min (window .low + getD (now speeds) (length (now speeds) - 1) 0) (window .arrived) ⌝ }
+    ensures { λ _. ⌜ ((charge : ℕ → ℕ) → Charged charge (now (speeds .entry)) (now (charges .entry)) → Picked (M·Measure .kind) charge (window .arrived) (window .need) (now (next .entry)) (now (speeds .entry)) (window .low) (window .high) (now (row .exit)) (now (picks .exit))) ⌝ }
 {
     let last = speeds.len() - 1;
-    start_row(
-        speeds[last],
-        M::of(charges[last]),
-        arrived,
-        next,
-        low,
-        high,
-        row,
-        picks,
-    );
+    start_row(speeds[last], M::of(charges[last]), window, next, row, picks);
     for i in (0..last).rev() {
-        lower_row(
-            speeds[i],
-            M::of(charges[i]),
-            arrived,
-            need,
-            next,
-            low,
-            high,
-            row,
-            picks,
-        );
+        lower_row(speeds[i], M::of(charges[i]), window, next, row, picks);
     }
 }

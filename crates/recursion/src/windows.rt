@@ -8,6 +8,16 @@ ghost use Rattle.recursion.specs.Work.{mostArrived};
 ghost use Rattle.recursion.specs.Windows.{keepsUp, reachAt};
 use super::SlotWork;
 
+// The states of a slot that matter: before it the work done is from low to high. By its end `need` has to be done, and no
+// more than `arrived` can be.
+#[derive(Clone, Copy)]
+pub(crate) struct Window {
+    pub(crate) low: usize,
+    pub(crate) high: usize,
+    pub(crate) need: usize,
+    pub(crate) arrived: usize,
+}
+
 // The most work that has arrived by any of the slots.
 pub(crate) fn most_arrived(work: &[SlotWork]) -> u16
     ensures { λ r. ⌜ r ≡ mostArrived (now (work .entry)) ⌝ }

@@ -7,4 +7,4 @@ use Rattle.recursion.proofs.rows.fill_row.Given as given
 abbrev pub Inv-loop-i : given.InvT-loop-i
 Inv-loop-i g l =
     (charge : ℕ → ℕ) → Charged charge (l .speeds) (l .charges) →
-    Picked (g .M·Measure .kind) charge (l .arrived) (l .need) (l .next) (drop (l .i) (l .speeds)) (l .low) (l .high) (l .row) (l .picks)
+    Picked (g .M·Measure .kind) charge (l .window .arrived) (l .window .need) (l .next) (drop (l .i) (l .speeds)) (l .window .low) (l .window .high) (l .row) (l .picks)

@@ -8,5 +8,5 @@ use Rattle.recursion.proofs.rows.start_row.Given as given
 abbrev pub Inv-loop-done : given.InvT-loop-done
 Inv-loop-done g l =
     let q = g .M·Measure .kind in
-    (need : ℕ) → need ≤ min (l .low + l .speed) (l .arrived) → (e : ℕ) → l .low ≤ e → e < l .done →
-    best (getD (l .picks) e 0) (getD (l .row) e (q .nought)) ≡ offer q (l .measure) (l .arrived) need (l .next) (l .speed) e
+    (e : ℕ) → l .window .low ≤ e → e < l .done →
+    best (getD (l .picks) e 0) (getD (l .row) e (q .nought)) ≡ offer q (l .measure) (l .window .arrived) (l .window .need) (l .next) (l .speed) e
