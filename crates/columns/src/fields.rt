@@ -5,16 +5,7 @@ ghost use Prim.Native.Nat.{_≤_};
 ghost use lib.Dec.{eqb};
 ghost use lib.ListN.{length, drop};
 ghost use Rattle.std.specs.shelf.Lists.{sum};
-ghost use Rattle.columns.specs.Fields.{
-  afterBlanks,
-  canHold,
-  digitsBehind,
-  fieldAt,
-  fieldValue,
-  fieldsFrom,
-  lineFields,
-  startsWell,
-};
+ghost use Rattle.columns.specs.Fields.{afterBlanks, canHold, digitsBehind, fieldAt, fieldValue, fieldsFrom, lineFields, startsWell};
 use crate::faults::FieldFault;
 use crate::faults::LineFault;
 use crate::faults::LineFromField;

@@ -6,59 +6,40 @@ ghost use mathlib.Core.List.{[]};
 ghost use Prim.Native.Nat.{_+_, _<_, _≤_};
 ghost use lib.ListN.{length, getD};
 ghost use Rattle.std.specs.Options.{Cases as BySome};
-ghost use Rattle.columns.specs.Laws.{
-  Bytes-in-one-line,
-  Fields-in-order,
-  Last-newline-is-free,
-  Lines-join,
-  Only-written-reads,
-  Written-reads-back,
-};
+ghost use Rattle.columns.specs.Laws.{Bytes-in-one-line, Fields-in-order, Last-newline-is-free, Lines-join, Only-written-reads, Written-reads-back};
 ghost use Rattle.columns.specs.Lines.{lines};
 use crate::lines::Line;
 use crate::lines::Reader;
 
 /// The lines of a file joined by newlines are the file, but for one last newline.
-pub fn lines_join_holds() -> u8
+pub fn lines_join_holds()
     ensures { λ _. ⌜ Lines-join ⌝ }
-{
-    0
-}
+{}
 
 /// A newline added to a file that ends in another byte changes no line.
-pub fn last_newline_holds() -> u8
+pub fn last_newline_holds()
     ensures { λ _. ⌜ Last-newline-is-free ⌝ }
-{
-    0
-}
+{}
 
 /// Every byte that is no newline is in exactly one line.
-pub fn bytes_in_one_line_holds() -> u8
+pub fn bytes_in_one_line_holds()
     ensures { λ _. ⌜ Bytes-in-one-line ⌝ }
-{
-    0
-}
+{}
 
 /// A line answers all its numbers in order, or is refused for its length, or for the first bad field from the left.
-pub fn fields_in_order_holds() -> u8
+pub fn fields_in_order_holds()
     ensures { λ _. ⌜ Fields-in-order ⌝ }
-{
-    0
-}
+{}
 
 /// A number that fits is read back from where it was written.
-pub fn written_reads_back_holds() -> u8
+pub fn written_reads_back_holds()
     ensures { λ _. ⌜ Written-reads-back ⌝ }
-{
-    0
-}
+{}
 
 /// A field that is read holds just the bytes that its number is written as.
-pub fn only_written_reads_holds() -> u8
+pub fn only_written_reads_holds()
     ensures { λ _. ⌜ Only-written-reads ⌝ }
-{
-    0
-}
+{}
 
 /// What a new reader answers after it was asked so many times before: a file's lines in order, and then `None` for ever.
 pub fn answer_after<'a>(file: &'a [u8], asked: usize) -> Option<Line<'a>>

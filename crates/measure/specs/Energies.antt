@@ -1,7 +1,7 @@
 -- Words: energy as a kind of measure: charges add up, to a stop that no plan reaches.
 use mathlib.Core.Path.{_≡_, ap, subst}
 use mathlib.Core.List.{List, [], _∷_}
-use Prim.Native.Nat.{ℕ, _+_, _≤_, min}
+use Prim.Native.Nat.{ℕ, _+_, _≤_, _<_, min}
 use native.Mathlib.Omega.{arith}
 use native.Mathlib.Bridge.{le-prop}
 use borrow.Author.Tests.{leb-true, le-leb, leb-false}
@@ -45,6 +45,6 @@ abbrev pub total : List ℕ → ℕ
 total [] = 0
 total (c ∷ cs) = c + total cs
 
--- the energy of up to 96 charges is their sum: the stop is not reached
+-- the energy of up to 96 charges is their sum, which is below the stop
 abbrev pub Energy-is-the-sum : Type 0
-Energy-is-the-sum = (cs : List ℕ) → length cs ≤ 96 → EachWithin largestCharge cs → measureOf energy cs .value ≡ total cs
+Energy-is-the-sum = (cs : List ℕ) → length cs ≤ 96 → EachWithin largestCharge cs → (measureOf energy cs .value ≡ total cs) × (total cs < energyStop)

@@ -41,7 +41,7 @@ orderOf {M} {q} laws = record {
   faithful = λ m n h i. subst (λ (v : M). q .notAbove v (q .join (q .of n) (q .nought)) ≡ leb m n) (sym (laws .neutral-right (q .of m))) (subst (λ (v : M). q .notAbove (q .of m) v ≡ leb m n) (sym (laws .neutral-right (q .of n))) (laws .faithful m n h i));
 }
 
--- what a measure means to planning: its values order lists of charges as an order does
-pub record Ordering {M : Type 0} (q : Kind M) : Type 0 where
+-- what a measure means to planning: an order on lists of charges that is that of their measures; two lists may be level
+pub record OrdersCharges {M : Type 0} (q : Kind M) : Type 0 where
   pub order : Order
   pub by-values : (a b : List ℕ) → order .notAbove a b ≡ q .notAbove (measureOf q a) (measureOf q b)

@@ -54,8 +54,6 @@ pub impl Measure for Energy as EnergyMeasure {
 }
 
 /// The law of energy: of up to 96 charges it is their sum.
-pub fn energy_is_the_sum() -> u8
+pub fn energy_is_the_sum()
     ensures { λ _. ⌜ Energy-is-the-sum ⌝ }
-{
-    0
-}
+{}

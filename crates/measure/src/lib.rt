@@ -3,7 +3,7 @@ ghost use mathlib.Core.Path.{_≡_};
 ghost use Prim.Native.Nat.{ℕ, min};
 ghost use Rattle.tariff.specs.Charges.{largestCharge};
 ghost use Rattle.measure.specs.Kinds.{Kind, Laws};
-ghost use Rattle.measure.specs.Orders.{Ordering as OrdersCharges};
+ghost use Rattle.measure.specs.Orders.{OrdersCharges};
 
 mod amounts;
 mod energy;
@@ -33,6 +33,7 @@ pub trait Measure: Copy {
     fn mark_told() -> u8
         ensures { λ r. ⌜ r ≡ mark ⌝ };
 
+    /// The measure of no charges.
     fn nought() -> Self
         ensures { λ r. ⌜ r ≡ kind .nought ⌝ };
 
@@ -40,16 +41,16 @@ pub trait Measure: Copy {
     fn of(charge: u32) -> Self
         ensures { λ r. ⌜ r ≡ kind .of (min charge largestCharge) ⌝ };
 
+    /// What two measures come to, the first's charges first.
     fn join(self, other: Self) -> Self
         ensures { λ r. ⌜ r ≡ kind .join self other ⌝ };
 
+    /// Whether this is no more than the other.
     fn not_above(self, other: Self) -> bool
         ensures { λ r. ⌜ r ≡ kind .notAbove self other ⌝ };
 }
 
 /// The law that lets a call that plans be told as data: a measure's values put an order on lists of charges.
-pub fn measures_order_charges<M: Measure>() -> u8
+pub fn measures_order_charges<M: Measure>()
     ensures { λ _. ⌜ OrdersCharges (M·Measure .kind) ⌝ }
-{
-    0
-}
+{}

@@ -51,8 +51,6 @@ pub impl Measure for Peak as PeakMeasure {
 }
 
 /// The law of peak: it is the largest of the charges.
-pub fn peak_is_the_largest() -> u8
+pub fn peak_is_the_largest()
     ensures { λ _. ⌜ Peak-is-the-largest ⌝ }
-{
-    0
-}
+{}

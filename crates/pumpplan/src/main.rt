@@ -223,6 +223,8 @@ mod tests {
             &mut chosen,
         )?;
         check_eq(highest.value(), 15)?;
+        check_eq(Energy::MARK, Energy::mark_told())?;
+        check_eq(Peak::MARK, Peak::mark_told())?;
         check_eq(chosen, [0, 3, 1, 1])?;
         let mut prices = [1u32; 96];
         prices[2] = 9;

@@ -1,15 +1,20 @@
 -- The plan over lists of charges, under the order that a measure puts on them, is the plan over the measure.
-use mathlib.Core.Path.{_≡_, refl, sym, ap, _∙_, subst}
+use mathlib.Core.Path.{_≡_, refl, sym, ap, _∙_, subst, fun-ext}
 use mathlib.Core.Bool.{Bool, true, false, cond}
 use mathlib.Core.List.{List, [], _∷_}
+use mathlib.Core.Logic.{inl, inr}
 use Prim.Native.Nat.{ℕ, zero, suc}
 use Rattle.measure.specs.Kinds.{Kind, Laws, measureOf}
 use Rattle.measure.specs.Orders.{chargeLists, notAboveBy}
-use Rattle.recursion.specs.Staged.{Staged, Best, none, best, choiceOf, under, lower, lowest, ahead, least, attempt, planned}
+use Rattle.recursion.specs.Optimality.{ByOrderAlone, SameOrderSamePlan}
+use Rattle.recursion.specs.Staged.{Staged, Best, none, best, choiceOf, under, lower, lowest, ahead, least, attempt, planned, In}
+
+pub lowest-same-in : {M : Type 0} (q : Kind M) (a : Best M) (f g : ℕ → Best M) (ss : List ℕ) → ((s : ℕ) → In s ss → f s ≡ g s) → lowest q a f ss ≡ lowest q a g ss
+lowest-same-in q a f g [] h = refl
+lowest-same-in q a f g (s ∷ ss) h = ap (λ b. lowest q (lower q a b) f ss) (h s (inl refl)) ∙ lowest-same-in q (lower q a (g s)) f g ss (λ t i. h t (inr i))
 
 pub lowest-same : {M : Type 0} (q : Kind M) (a : Best M) (f g : ℕ → Best M) (ss : List ℕ) → ((s : ℕ) → f s ≡ g s) → lowest q a f ss ≡ lowest q a g ss
-lowest-same q a f g [] h = refl
-lowest-same q a f g (s ∷ ss) h = ap (λ v. lowest q (lower q a v) f ss) (h s) ∙ lowest-same q (lower q a (g s)) f g ss h
+lowest-same q a f g ss h = lowest-same-in q a f g ss (λ s i. h s)
 
 abbrev pub image : {X Y : Type 0} → (X → Y) → Best X → Best Y
 image h none = none
@@ -65,3 +70,15 @@ module _ {N : Type 0} {q : Kind N} (laws : Laws q) where
   planned-image y (suc n) k x =
       let P : ℕ → Type 0 = λ c. choiceOf (least (chargeLists (notAboveBy q)) y (suc n) k x) ∷ planned (chargeLists (notAboveBy q)) y n (suc k) (y .next k x (choiceOf (least (chargeLists (notAboveBy q)) y (suc n) k x))) ≡ c ∷ planned q y n (suc k) (y .next k x c) in
       subst P (choice-image y (suc n) k x) (ap (λ v. choiceOf (least (chargeLists (notAboveBy q)) y (suc n) k x) ∷ v) (planned-image y n (suc k) (y .next k x (choiceOf (least (chargeLists (notAboveBy q)) y (suc n) k x)))))
+
+  -- with the order in the place of the measure
+  pub order-planned : {X : Type 0} (y : Staged X) (n k : ℕ) (x : X) → ByOrderAlone q y n k x
+  order-planned y n k x o =
+      let same : o .order .notAbove ≡ notAboveBy q = fun-ext (λ a. fun-ext (o .by-values a)) in
+      ap (λ (f : List ℕ → List ℕ → Bool). planned (chargeLists f) y n k x) same ∙ planned-image y n k x
+
+-- two measures with one order
+pub same-order-planned : {M N X : Type 0} {p : Kind M} {q : Kind N} → Laws p → Laws q → (y : Staged X) (n k : ℕ) (x : X) → SameOrderSamePlan p q y n k x
+same-order-planned {p = p} {q = q} ps qs y n k x alike =
+    let same : notAboveBy p ≡ notAboveBy q = fun-ext (λ a. fun-ext (alike a)) in
+    sym (planned-image ps y n k x) ∙ ap (λ (f : List ℕ → List ℕ → Bool). planned (chargeLists f) y n k x) same ∙ planned-image qs y n k x

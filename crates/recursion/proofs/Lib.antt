@@ -2,6 +2,7 @@ pub mod Ranked
 pub mod Optimum
 pub mod Image
 pub mod Sequences
+pub mod Alike
 pub mod Rising
 pub mod Feeding
 pub mod Matters

@@ -16,15 +16,12 @@ use Rattle.recursion.specs.Windows.{keepsUp, reachAt, lowFor}
 use Rattle.recursion.specs.Work.{arrivedAt}
 use Rattle.recursion.specs.declared.work.SlotWork.{SlotWork}
 use Rattle.recursion.proofs.Feeding.{Feeds}
+use Rattle.recursion.proofs.Image.{lowest-same-in}
 
 -- where no choice gives anything, nothing is lowest
 lowest-none : {M : Type 0} (q : Kind M) (f : ℕ → Best M) (ss : List ℕ) → ((s : ℕ) → In s ss → f s ≡ none) → lowest q none f ss ≡ none
 lowest-none q f [] h = refl
 lowest-none q f (s ∷ ss) h = ap (λ b. lowest q (lower q none b) f ss) (h s (inl refl)) ∙ lowest-none q f ss (λ t i. h t (inr i))
-
-lowest-same : {M : Type 0} (q : Kind M) (a : Best M) (f g : ℕ → Best M) (ss : List ℕ) → ((s : ℕ) → In s ss → f s ≡ g s) → lowest q a f ss ≡ lowest q a g ss
-lowest-same q a f g [] h = refl
-lowest-same q a f g (s ∷ ss) h = ap (λ b. lowest q (lower q a b) f ss) (h s (inl refl)) ∙ lowest-same q (lower q a (g s)) f g ss (λ t i. h t (inr i))
 
 cond-same : {A : Type 0} (b : Bool) (x : A) → cond b x x ≡ x
 cond-same true x = refl
@@ -71,7 +68,7 @@ module _ {M : Type 0} (q : Kind M) (y : Pump) (top : ℕ) (tops : (s : ℕ) → 
       let low = lowFor top ws in
       ap (λ (a : ℕ). bestTried q (y .charge k) a (max (w .due) low) next (y .speeds) e) (sym (fed .0))
       ∙ ap (λ (d : ℕ). bestTried q (y .charge k) (y .arrived k) (max d low) next (y .speeds) e) (sym (fed .1))
-      ∙ lowest-same q none (tried q (y .charge k) (y .arrived k) (max (y .due (suc k)) low) next e) (attempt q (decisions y) (length ws) k e) (y .speeds)
+      ∙ lowest-same-in q none (tried q (y .charge k) (y .arrived k) (max (y .due (suc k)) low) next e) (attempt q (decisions y) (length ws) k e) (y .speeds)
       (λ s i. tried-attempt (length ws) k e s low (min (high + top) (w .arrived)) next (λ f lt. below-low ws (suc k) f (fed .2) lt) holds (omega (arith, tops s i, fed .0)))
 
   -- top speed keeps up wherever some list does

@@ -197,5 +197,5 @@ module _ {M : Type 0} {q : Kind M} (laws : Ranked q) where
     reached = found y n k x;
     exists = λ d o w. least-is (least q y (suc n) k x) d o (under-fit y n k x d o w);
     none-below = λ c m h d o w. subst (λ (b : Best M). under q b (best d o) ≡ true) h (under-fit y n k x d o w);
-    lowest = λ rising c m h d w. lowest-choice y n k x rising c m h d (w .listed) (subst (λ (b : Best M). under q b (best c m) ≡ true) (sym (fit-attempt y n k x d m w)) (within-refl m));
+    lowest-choice = λ rising c m h d w. lowest-choice y n k x rising c m h d (w .listed) (subst (λ (b : Best M). under q b (best c m) ≡ true) (sym (fit-attempt y n k x d m w)) (within-refl m));
   }

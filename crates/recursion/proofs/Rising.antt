@@ -9,9 +9,10 @@ use borrow.Author.Tests.{clash}
 use lib.Dec.{leb, ltb, eqb}
 use lib.ListN.{length, getD, drop}
 use Rattle.std.proofs.shelf.Lists.{at-drop-more, getD-past}
-use Rattle.std.proofs.shelf.Tests.{cases-lt, leb-true, ltb-true, le-leb, lt-ltb, le-ltb, eq-eqb, and-parts}
+use Rattle.std.proofs.shelf.Tests.{cases-lt, leb-true, ltb-true, le-leb, lt-ltb, le-ltb, eq-eqb, eqb-true, and-parts, and-from}
+use Rattle.tariff.specs.Checks.{TestIsExact}
 use Rattle.recursion.specs.Staged.{In, Rising}
-use Rattle.recursion.specs.Speeds.{risesFrom, lastFrom, lawfulSpeeds}
+use Rattle.recursion.specs.Speeds.{risesFrom, lastFrom, lawfulSpeeds, LawfulList}
 
 pub rises-stop : (ss : List ℕ) (i p : ℕ) → i < length ss → getD ss i 0 ≤ p → risesFrom p (drop i ss) ≡ false
 rises-stop ss i p h le =
@@ -100,3 +101,40 @@ each-low ss top w i =
     (λ lt. omega (arith, w .under-top (getD ss i 0) (in-at ss i lt), w .low-top))
     (λ ge. omega (arith, getD-past ss i 0 ge))
     (cases-lt i (length ss))
+
+rises-true : (s : ℕ) (ss : List ℕ) → Rising (s ∷ ss) → risesFrom s ss ≡ true
+rises-true s [] h = refl
+rises-true s (t ∷ ss) h = and-from (ltb s t) (risesFrom t ss) (lt-ltb s t (h .0 t (inl refl))) (rises-true t ss (h .1))
+
+last-in : (s : ℕ) (ss : List ℕ) → In (lastFrom s ss) (s ∷ ss)
+last-in s [] = inl refl
+last-in s (t ∷ ss) = inr (last-in t ss)
+
+list-passes : (ss : List ℕ) → LawfulList ss → lawfulSpeeds ss ≡ true
+list-passes [] h = absurd (omega (arith, h .some))
+list-passes (s ∷ ss) h =
+    let r = risesFrom s ss in
+    let l = leb (lastFrom s ss) 15 in
+    let z = eqb s 0 in
+    let b = leb (length (s ∷ ss)) 16 in
+    and-from (leb 2 (length (s ∷ ss))) (b && (z && (r && l))) (le-leb _ _ (h .some))
+    (and-from b (z && (r && l)) (le-leb _ _ (h .few))
+    (and-from z (r && l) (eq-eqb s 0 (h .from-nought))
+    (and-from r l (rises-true s ss (h .rising)) (le-leb _ _ (h .to-fifteen (lastFrom s ss) (last-in s ss))))))
+
+list-keeps : (ss : List ℕ) → lawfulSpeeds ss ≡ true → LawfulList ss
+list-keeps [] h = absurd (clash h)
+list-keeps (s ∷ ss) h =
+    let w = lawful-gives (s ∷ ss) h in
+    let a = and-parts (leb 2 (length (s ∷ ss))) (leb (length (s ∷ ss)) 16 && (eqb s 0 && (risesFrom s ss && leb (lastFrom s ss) 15))) h in
+    let b = and-parts (leb (length (s ∷ ss)) 16) (eqb s 0 && (risesFrom s ss && leb (lastFrom s ss) 15)) (a .1) in
+    record {
+      some = w .some;
+      few = w .few;
+      from-nought = eqb-true s 0 (and-parts (eqb s 0) (risesFrom s ss && leb (lastFrom s ss) 15) (b .1) .0);
+      rising = w .rising;
+      to-fifteen = λ t i. omega (arith, w .under-top t i, w .low-top);
+    }
+
+pub lawful-exact : (ss : List ℕ) → TestIsExact (LawfulList ss) (lawfulSpeeds ss)
+lawful-exact ss = record { passes = list-passes ss; keeps = list-keeps ss }

@@ -5,7 +5,7 @@ use mathlib.Core.List.{List, [], _∷_, _++_}
 use Prim.Native.Nat.{ℕ, suc, _+_, _≤_}
 use lib.ListN.{length}
 use Rattle.measure.specs.Kinds.{Kind}
-use Rattle.measure.specs.Orders.{chargeLists, notAboveBy}
+use Rattle.measure.specs.Orders.{OrdersCharges, chargeLists, notAboveBy}
 use Rattle.recursion.specs.Staged.{Staged, best, least, planned, In, Allowed, measured, Rising}
 
 -- the least measure over the n stages from k in state x is m, reached first by the choice c
@@ -31,7 +31,7 @@ pub record Recursion {M X : Type 0} (q : Kind M) (y : Staged X) (n k : ℕ) (x :
   -- no fit choice comes to less
   pub none-below : (c : ℕ) (m : M) → IsLeast q y (suc n) k x c m → (d : ℕ) (o : M) → Fit q y n k x d o → q .notAbove m o ≡ true
   -- of the fit choices that come to as little, it is the lowest
-  pub lowest : Rising (y .choices) → (c : ℕ) (m : M) → IsLeast q y (suc n) k x c m → (d : ℕ) → Fit q y n k x d m → c ≤ d
+  pub lowest-choice : Rising (y .choices) → (c : ℕ) (m : M) → IsLeast q y (suc n) k x c m → (d : ℕ) → Fit q y n k x d m → c ≤ d
 
 -- the principle of optimality, with n stages left
 pub record Optimal {M X : Type 0} (q : Kind M) (y : Staged X) (n k : ℕ) (x : X) : Type 0 where
@@ -42,16 +42,20 @@ pub record Optimal {M X : Type 0} (q : Kind M) (y : Staged X) (n k : ℕ) (x : X
   -- if some list is allowed, there is a least
   pub exists : (cs : List ℕ) → Allowed y n k x cs → (c : ℕ) × (m : M) × IsLeast q y n k x c m
 
--- the planned choices depend on a measure only through the order that it puts on lists of charges
+-- with an order on lists of charges in the place of the measure that puts it there, the same choices are planned
 abbrev pub ByOrderAlone : {M X : Type 0} → Kind M → Staged X → ℕ → ℕ → X → Type 0
-ByOrderAlone q y n k x = planned (chargeLists (notAboveBy q)) y n k x ≡ planned q y n k x
+ByOrderAlone q y n k x = (o : OrdersCharges q) → planned (chargeLists (o .order .notAbove)) y n k x ≡ planned q y n k x
+
+-- two kinds of measure that order lists of charges alike plan alike
+abbrev pub SameOrderSamePlan : {M N X : Type 0} → Kind M → Kind N → Staged X → ℕ → ℕ → X → Type 0
+SameOrderSamePlan p q y n k x = ((a b : List ℕ) → notAboveBy p a b ≡ notAboveBy q a b) → planned p y n k x ≡ planned q y n k x
 
 -- the state after some choices
 abbrev pub stateAfter : {X : Type 0} → Staged X → ℕ → X → List ℕ → X
 stateAfter y k x [] = x
 stateAfter y k x (c ∷ cs) = stateAfter y (suc k) (y .next k x c) cs
 
--- the rest of a planned list is the planned list from where it has come to
+-- where a planned list is cut in two, its second part is what is planned in the state after the first
 abbrev pub RestIsPlanned : {M X : Type 0} → Kind M → Staged X → ℕ → ℕ → X → Type 0
 RestIsPlanned q y n k x =
     (cs ds : List ℕ) → planned q y n k x ≡ cs ++ ds → ds ≡ planned q y (length ds) (k + length cs) (stateAfter y k x cs)

@@ -16,7 +16,7 @@ use Rattle.recursion.specs.declared.unplanned.Unplanned.{Unplanned}
 use Rattle.recursion.specs.declared.unplanned.Unplanned.the-variants.{Slots, Speeds, Memory, Late}
 use Rattle.recursion.specs.declared.work.SlotWork.{SlotWork}
 
--- the measures and bytes that a plan needs: a row for each work done from 0 to the most that has arrived
+-- a row has a place for each work done from 0 to the most that has arrived
 abbrev pub rowWidth : List SlotWork → ℕ
 rowWidth work = mostArrived work + 1
 

@@ -40,7 +40,7 @@ pub record Lowered {M : Type 0} (q : Kind M) (f : ℕ → Best M) (from to : ℕ
   pub below : (e : ℕ) → e < from → best (getD picks′ e 0) (getD row′ e (q .nought)) ≡ best (getD picks e 0) (getD row e (q .nought))
   pub above : (e : ℕ) → to ≤ e → best (getD picks′ e 0) (getD row′ e (q .nought)) ≡ best (getD picks e 0) (getD row e (q .nought))
 
--- a row holds what is least at each work done from low to high, for the slots of ws from k on
+-- a row holds what is least at each work done from low to high, with n slots left from k
 abbrev pub HoldsLeast : {M : Type 0} → Kind M → Pump → ℕ → ℕ → ℕ → ℕ → List M → Type 0
 HoldsLeast q y n k low high row =
     (e : ℕ) → low ≤ e → e ≤ high → (s : ℕ) × (least q (decisions y) n k e ≡ best s (getD row e (q .nought)))

@@ -1,9 +1,11 @@
--- Words: rising, last, lawful list of speeds.
+-- Words: lawful list of speeds, as a test and as what it means.
+use mathlib.Core.Path.{_≡_}
 use mathlib.Core.Bool.{Bool, true, false, _&&_}
 use mathlib.Core.List.{List, [], _∷_}
-use Prim.Native.Nat.{ℕ}
+use Prim.Native.Nat.{ℕ, _≤_}
 use lib.Dec.{leb, ltb, eqb}
-use lib.ListN.{length}
+use lib.ListN.{length, getD}
+use Rattle.recursion.specs.Staged.{In, Rising}
 
 -- the list rises strictly, from above s
 abbrev pub risesFrom : ℕ → List ℕ → Bool
@@ -20,3 +22,11 @@ abbrev pub lawfulSpeeds : List ℕ → Bool
 lawfulSpeeds [] = false
 lawfulSpeeds (s ∷ ss) =
     leb 2 (length (s ∷ ss)) && (leb (length (s ∷ ss)) 16 && (eqb s 0 && (risesFrom s ss && leb (lastFrom s ss) 15)))
+
+-- a list of speeds that keeps its rules
+pub record LawfulList (ss : List ℕ) : Type 0 where
+  pub some : 2 ≤ length ss
+  pub few : length ss ≤ 16
+  pub from-nought : getD ss 0 1 ≡ 0
+  pub rising : Rising ss
+  pub to-fifteen : (s : ℕ) → In s ss → s ≤ 15

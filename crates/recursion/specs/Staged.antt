@@ -1,4 +1,4 @@
--- Words: staged decisions, fit, least, planned choices, allowed lists.
+-- Words: staged decisions, least, planned choices, allowed lists.
 -- In each stage one listed choice is made. It is allowed or not, has a charge, and leads to the next state.
 -- Stages are numbered: `n` is how many are left, `k` the number of the next one, `x` the state before it.
 use mathlib.Core.Path.{_≡_}
@@ -52,11 +52,11 @@ least q y (suc n) k x =
     (λ c. cond (y .allowed k x c) (ahead q c (q .of (y .charge k x c)) (least q y n (suc k) (y .next k x c))) none)
     (y .choices)
 
--- what one choice comes to, with n stages left after it
+-- what one choice comes to, with n stages left after it: the same term, by itself
 abbrev pub attempt : {M X : Type 0} → Kind M → Staged X → ℕ → ℕ → X → ℕ → Best M
 attempt q y n k x c = cond (y .allowed k x c) (ahead q c (q .of (y .charge k x c)) (least q y n (suc k) (y .next k x c))) none
 
--- the choices that follow the least, one for each of the n stages from k in state x
+-- the choices that follow the least, one for each of the n stages from k in state x; 0 where there is no least
 abbrev pub planned : {M X : Type 0} → Kind M → Staged X → ℕ → ℕ → X → List ℕ
 planned q y zero k x = []
 planned q y (suc n) k x =

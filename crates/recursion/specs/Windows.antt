@@ -1,5 +1,4 @@
--- Words: the states that matter. At a slot's start the work done lies between the least from which the rest
--- can be in time and the most that top speed reaches.
+-- Words: keeping up at top speed, how far it reaches, the low. They bound the states that planning has to fill.
 use mathlib.Core.Bool.{Bool, true, _&&_}
 use mathlib.Core.List.{List, [], _∷_}
 use Prim.Native.Nat.{ℕ, zero, suc, _+_, _-_, min, max}

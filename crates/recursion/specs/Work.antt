@@ -1,4 +1,5 @@
 -- Words: the work of the slots left, the pump that it describes, the most that has arrived.
+-- Work is told by running totals, one pair for each slot left, in order.
 use mathlib.Core.List.{List, [], _∷_}
 use Prim.Native.Nat.{ℕ, suc, _-_, max}
 use lib.ListN.{getD}
@@ -16,7 +17,8 @@ arrivedAt work i = getD work i noWork .arrived
 abbrev pub dueAt : List SlotWork → ℕ → ℕ
 dueAt work i = getD work i noWork .due
 
--- the pump with these speeds, work and charges, where the work's first slot has the number `first`
+-- the pump with these speeds, work and charges, where the work's first slot has the number `first`; it is asked for what
+-- has arrived by its slots left, and for what is due by the slots after them, and means nothing elsewhere
 abbrev pub pumpOf : List ℕ → ℕ → List SlotWork → (ℕ → ℕ → ℕ) → Pump
 pumpOf speeds first work charge = record {
   speeds = speeds;

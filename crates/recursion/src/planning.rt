@@ -133,9 +133,10 @@ fn memory_short(work: &[SlotWork], width: usize, bytes: usize, measures: usize) 
     bytes < work.len() * width || measures < 2 * width
 }
 
-/// Plans the cheapest speeds that keep every due slot.
+/// Plans the speeds of the slots left: in time, of the least measure, the lowest where measures are level.
 ///
-/// `work` is that of the slots left, the first of which has the number `first`; `chosen` has a place for each speed.
+/// `work` has the running totals of each slot left, the first of which has the number `first`; `chosen` has a place for each
+/// speed.
 /// The lent memory is a byte for each slot and work done, and two rows of measures; an accepted plan leaves there what
 /// it will. A refusal changes nothing.
 pub fn plan<T: Tariff, M: Measure>(

@@ -47,7 +47,7 @@ fn takes_place<M: Measure>(here: M, held: M) -> bool
     here.not_above(held)
 }
 
-// Lowers a row where the speed leaves work to do: it is met in full.
+// Lowers a row where the speed passes no more than has arrived, so that all of it counts.
 fn lower_in_full<M: Measure>(
     speed: u8,
     measure: M,

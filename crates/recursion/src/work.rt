@@ -1,6 +1,7 @@
 // The work that planning is asked about.
 
-/// The work of one slot: what is due by its end, and what has arrived by it.
+/// Running totals at one slot: all work that is due by its end, and all work that has arrived by it. Both count what was not
+/// yet done when planning starts.
 #[derive(Clone, Copy)]
 pub struct SlotWork {
     pub due: u16,

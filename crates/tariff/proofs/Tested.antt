@@ -8,8 +8,8 @@ use lib.Dec.{leb}
 use lib.ListN.{length, getD, drop}
 use Rattle.std.proofs.shelf.Lists.{at-drop-more, at-drop-all}
 use Rattle.std.proofs.shelf.Tests.{leb-true, le-leb, lt-leb, and-parts, and-from}
-use Rattle.tariff.specs.Bounds.{allWithin, EachWithin}
-use Rattle.tariff.specs.Checks.{TestIsExact}
+use Rattle.tariff.specs.Bounds.{allWithin, EachWithin, CoefficientsWithin, baseBound, linearBound, cubeBound}
+use Rattle.tariff.specs.Checks.{TestIsExact, coefficientsWithin}
 
 each-within : (bound : ℕ) (xs : List ℕ) → allWithin bound xs ≡ true → EachWithin bound xs
 each-within bound [] h i = omega arith
@@ -20,8 +20,18 @@ all-within : (bound : ℕ) (xs : List ℕ) → EachWithin bound xs → allWithin
 all-within bound [] h = refl
 all-within bound (x ∷ xs) h = and-from (leb x bound) (allWithin bound xs) (le-leb x bound (h 0)) (all-within bound xs (λ i. h (suc i)))
 
-pub exact : (bound : ℕ) (xs : List ℕ) → TestIsExact bound xs
+pub exact : (bound : ℕ) (xs : List ℕ) → TestIsExact (EachWithin bound xs) (allWithin bound xs)
 exact bound xs = record { passes = all-within bound xs; keeps = each-within bound xs }
+
+pub coefficients-exact : (base linear cube : ℕ) → TestIsExact (CoefficientsWithin base linear cube) (coefficientsWithin base linear cube)
+coefficients-exact base linear cube =
+    let b = leb base baseBound in
+    let l = leb linear linearBound in
+    let c = leb cube cubeBound in
+    record {
+      passes = λ h. and-from b (l && c) (le-leb base baseBound (h .0)) (and-from l c (le-leb linear linearBound (h .1)) (le-leb cube cubeBound (h .2)));
+      keeps = λ t. let p = and-parts b (l && c) t in let r = and-parts l c (p .1) in (leb-true base baseBound (p .0), leb-true linear linearBound (r .0), leb-true cube cubeBound (r .1));
+    }
 
 pub within-step : (bound : ℕ) (xs : List ℕ) (i : ℕ) → i < length xs → getD xs i 0 ≤ bound → allWithin bound (drop (i + 1) xs) ≡ allWithin bound (drop i xs)
 within-step bound xs i h le =

@@ -11,7 +11,7 @@ use Rattle.tariff.specs.declared.checked.Prices.{Prices}
 use Rattle.tariff.specs.declared.refusal.TariffRefusal.{TariffRefusal}
 use Rattle.tariff.specs.declared.refusal.TariffRefusal.the-variants.{PastBound}
 use lib.Dec.{leb}
-use Rattle.tariff.specs.Bounds.{allWithin, EachWithin, baseBound, linearBound, cubeBound}
+use Rattle.tariff.specs.Bounds.{baseBound, linearBound, cubeBound}
 
 abbrev pub refusalNumber : TariffRefusal → ℕ
 refusalNumber PastBound = 14
@@ -37,7 +37,7 @@ coefficientsWithin base linear cube = leb base baseBound && (leb linear linearBo
 abbrev pub unlessPast : {X : Type 0} → Bool → X → Result X TariffRefusal
 unlessPast within x = cond within (Ok x) (Err PastBound)
 
--- the test of a list passes exactly if each of its numbers keeps the bound
-pub record TestIsExact (bound : ℕ) (xs : List ℕ) : Type 0 where
-  pub passes : EachWithin bound xs → allWithin bound xs ≡ true
-  pub keeps : allWithin bound xs ≡ true → EachWithin bound xs
+-- a test that passes exactly where what it tests holds
+pub record TestIsExact (P : Type 0) (test : Bool) : Type 0 where
+  pub passes : P → test ≡ true
+  pub keeps : test ≡ true → P

@@ -1,6 +1,5 @@
 // What the tariffs are made from, each kept within its bounds by its type.
-ghost use Prim.Native.Nat.{_≤_};
-ghost use Rattle.tariff.specs.Bounds.{EachWithin, energyBound, baseBound, linearBound, cubeBound, priceBound};
+ghost use Rattle.tariff.specs.Bounds.{EachWithin, CoefficientsWithin, energyBound, priceBound};
 
 /// Watt-hours of one slot, for each speed 0 to 15.
 #[derive(Clone, Copy)]
@@ -15,7 +14,7 @@ pub struct Coefficients {
     pub(crate) base: u32,
     pub(crate) linear: u32,
     pub(crate) cube: u32,
-    ghost bounded: { (base ≤ baseBound) × (linear ≤ linearBound) × (cube ≤ cubeBound) },
+    ghost bounded: { CoefficientsWithin base linear cube },
 }
 
 /// A price for each slot 0 to 95.

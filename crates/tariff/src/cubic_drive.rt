@@ -26,6 +26,7 @@ pub struct CubicDrive {
 }
 
 impl CubicDrive {
+    /// The drive of these coefficients.
     pub fn new(coefficients: Coefficients) -> Self
         ensures { λ r. ⌜ r .coefficients ≡ coefficients ⌝ }
     {

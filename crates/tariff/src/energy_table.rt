@@ -1,7 +1,6 @@
 // The energy table: the charge is the energy of the speed, in every slot.
 ghost use mathlib.Core.Path.{_≡_};
-ghost use lib.ListN.{getD};
-ghost use Rattle.tariff.specs.Bounds.{allWithin, energyBound};
+ghost use Rattle.tariff.specs.Bounds.{allWithin, energyBound, tableCharge};
 ghost use Rattle.tariff.specs.Checks.{energiesOf, told, unlessPast};
 use super::Energies;
 use super::Tariff;
@@ -28,6 +27,7 @@ pub struct EnergyTable {
 }
 
 impl EnergyTable {
+    /// The tariff of these energies.
     pub fn new(energies: Energies) -> Self
         ensures { λ r. ⌜ r .energies ≡ energies ⌝ }
     {
@@ -36,7 +36,7 @@ impl EnergyTable {
 }
 
 pub impl Tariff for EnergyTable as EnergyTableTariff {
-    ghost charge = { λ t k s. getD (t .energies .values) s 0 };
+    ghost charge = { λ t. tableCharge (t .energies .values) };
 
     fn charge_for(&self, _slot: u32, speed: u32) -> u32 {
         self.energies.values[speed.min(15) as usize]

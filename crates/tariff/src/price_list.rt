@@ -1,7 +1,6 @@
 // The price list: the amount of the tariff below times the price of the slot.
 ghost use mathlib.Core.Path.{_≡_};
-ghost use lib.ListN.{getD};
-ghost use Rattle.tariff.specs.Bounds.{allWithin, priceBound, priced};
+ghost use Rattle.tariff.specs.Bounds.{allWithin, priceBound, priceListCharge};
 ghost use Rattle.tariff.specs.Checks.{pricesOf, told, unlessPast};
 use super::Prices;
 use super::Tariff;
@@ -29,6 +28,7 @@ pub struct PriceList<L> {
 }
 
 impl<L> PriceList<L> {
+    /// The list over a tariff, which it takes in.
     pub fn new(below: L, prices: Prices) -> Self
         ensures { λ r. ⌜ r .below ≡ below ⌝ ∗ ⌜ r .prices ≡ prices ⌝ }
     {
@@ -37,7 +37,7 @@ impl<L> PriceList<L> {
 }
 
 pub impl<L: Tariff> Tariff for PriceList<L> as PriceListTariff {
-    ghost charge = { λ t k s. priced (L·Tariff .charge (t .below) k s) (getD (t .prices .values) k 0) };
+    ghost charge = { λ t. priceListCharge (L·Tariff .charge (t .below)) (t .prices .values) };
 
     fn charge_for(&self, slot: u32, speed: u32) -> u32 {
         let k = slot.min(95);

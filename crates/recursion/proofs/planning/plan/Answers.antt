@@ -31,7 +31,7 @@ returns-in-rest g c =
       answer = sym (answer-least q y first work (length (c .args .bytes .now)) (length (c .args .measures .now)) (length (c .args .chosen .now)) (sym (c .if-slots-wrong .ensures tt)) lawful (sym (c .if-memory-short .ensures tt))
           ∙ ap leastOr nothing);
       chosen = refl;
-      promise = λ ss in-time. let w = pump-optimal laws y (length work) first 0 .exists ss in-time in none-best (w .0) (w .1) (sym nothing ∙ w .2);
+      promise = λ ss in-time. let w = pump-optimal laws y (length work) first 0 .exists ss in-time in none-best (w .1 .0) (w .0) (sym nothing ∙ w .1 .1);
       bytes = refl;
       measures = refl;
     }
@@ -54,7 +54,7 @@ returns g c =
       answer = sym (answer-least q y first work (length (c .args .bytes .now)) (length (c .args .measures .now)) (length (c .args .chosen .now)) (sym (c .if-slots-wrong .ensures tt)) lawful (sym (c .if-memory-short .ensures tt))
           ∙ ap leastOr (least-is .1));
       chosen = chosen;
-      promise = subst (λ (ss : List ℕ). PlanIsBest q y (length work) first 0 (c .fill-least .result) ss) (sym chosen) (pump-optimal laws y (length work) first 0 .planned-is-best (least-is .0) (c .fill-least .result) (least-is .1));
+      promise = subst (λ (ss : List ℕ). PlanIsBest q y (length work) first 0 (c .fill-least .result) ss) (sym chosen) (pump-optimal laws y (length work) first 0 .planned-is-best (c .fill-least .result) least-is);
       bytes = tt;
       measures = tt;
     }
