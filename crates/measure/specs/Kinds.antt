@@ -15,20 +15,20 @@ pub record Kind (M : Type 0) : Type 0 where
 
 -- what every kind of measure has to show
 pub record Laws {M : Type 0} (q : Kind M) : Type 0 where
-  -- the order is total and transitive, and values that are not above each other are the same
+  -- "not above" is a total order
   pub total : (a b : M) → q .notAbove a b ≡ false → q .notAbove b a ≡ true
   pub transitive : (a b c : M) → q .notAbove a b ≡ true → q .notAbove b c ≡ true → q .notAbove a c ≡ true
   pub antisymmetric : (a b : M) → q .notAbove a b ≡ true → q .notAbove b a ≡ true → a ≡ b
-  -- joining is associative, and nought is neutral on both sides
+  -- joining and nought make a monoid
   pub associative : (a b c : M) → q .join (q .join a b) c ≡ q .join a (q .join b c)
   pub neutral-left : (a : M) → q .join (q .nought) a ≡ a
   pub neutral-right : (a : M) → q .join a (q .nought) ≡ a
-  -- the same put in front keeps the order
+  -- which keeps the order, on the right
   pub monotone : (a b c : M) → q .notAbove a b ≡ true → q .notAbove (q .join c a) (q .join c b) ≡ true
   -- charges are ordered as numbers
   pub faithful : (m n : ℕ) → m ≤ largestCharge → n ≤ largestCharge → q .notAbove (q .of m) (q .of n) ≡ leb m n
 
--- the measure of a list of charges: theirs joined in order, nought last
+-- what a list of charges comes to
 abbrev pub measureOf : {M : Type 0} → Kind M → List ℕ → M
 measureOf q [] = q .nought
 measureOf q (c ∷ cs) = q .join (q .of c) (measureOf q cs)

@@ -1,5 +1,5 @@
 -- Words: last slot, top speed, largest charge, as read.
--- A tariff means a charge for each slot 0 to 95 and each speed 0 to 15.
+-- Slots go from 0 to 95 and speeds from 0 to 15.
 use Prim.Native.Nat.{ℕ, min}
 
 abbrev pub lastSlot : ℕ
@@ -12,6 +12,6 @@ topSpeed = 15
 abbrev pub largestCharge : ℕ
 largestCharge = 1000000000
 
--- a charge as it is asked for: a slot above the last is read as the last, a speed above the top as the top
+-- a charge as it is asked for: slot and speed are brought into their ranges first
 abbrev pub asRead : (ℕ → ℕ → ℕ) → ℕ → ℕ → ℕ
 asRead charge slot speed = charge (min slot lastSlot) (min speed topSpeed)

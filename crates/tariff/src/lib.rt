@@ -25,14 +25,14 @@ pub use refusal::TariffRefusalDebug;
 pub use refusal::TariffRefusalEq;
 pub use refusal::TariffRefusalPartialEq;
 
-/// A charge for each slot 0 to 95 and each speed 0 to 15.
+/// What a slot costs at a speed, for slots up to 95 and speeds up to 15.
 pub trait Tariff {
     // the charge by slot and speed
     ghost charge: { Self → ℕ → ℕ → ℕ };
 
     law bounded: { (t : Self) (k s : ℕ) → k ≤ lastSlot → s ≤ topSpeed → charge t k s ≤ largestCharge };
 
-    /// The charge of a slot at a speed. A slot above 95 is read as 95, a speed above 15 as 15.
+    /// The charge of a slot at a speed, each brought into its range first: the slot to 95, the speed to 15.
     fn charge_for(&self, slot: u32, speed: u32) -> u32
         ensures { λ r. ⌜ r ≡ asRead (charge (now (self .entry))) slot speed ⌝ };
 }

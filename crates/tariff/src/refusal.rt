@@ -5,7 +5,7 @@ ghost use Rattle.tariff.specs.Checks.{refusalNumber};
 /// Why a tariff is not made.
 #[derive(Clone, Copy, PartialEq, Eq, Debug)]
 pub enum TariffRefusal {
-    /// An energy, a coefficient or a price passes its bound.
+    /// One of the numbers is above its bound.
     PastBound,
 }
 
