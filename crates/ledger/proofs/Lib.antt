@@ -1,0 +1,12 @@
+pub mod Queues
+pub mod Slots
+pub mod Pump
+pub mod Times
+pub mod Plans
+pub mod Booked
+pub mod Kept
+pub mod Answered
+pub mod Asked
+pub mod Promised
+pub mod Refuted
+pub mod Tested

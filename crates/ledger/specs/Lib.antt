@@ -1,0 +1,14 @@
+pub mod Refusals
+pub mod Queue
+pub mod Ledger
+pub mod Answers
+pub mod Sound
+pub mod AnswerLaws
+pub mod QuestionLaws
+pub mod Promise
+pub mod Theorems
+pub mod Stays
+pub mod Trials
+pub mod Edges
+pub mod Wrong
+pub mod SoundTest
