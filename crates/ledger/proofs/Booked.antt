@@ -13,6 +13,7 @@ use Rattle.ledger.specs.declared.job.Job.{Job}
 use Rattle.ledger.specs.declared.refusal.Refusal.{Refusal}
 use Rattle.ledger.specs.declared.refusal.Refusal.the-variants.{JobNumber, JobSlots, JobWork, NumberOpen, NoRoom, Nested, NotInTime}
 use Rattle.ledger.specs.Refusals.{refusalNumber}
+use Rattle.ledger.specs.Limits.{mostJobs, mostWork, largestNumber}
 use Rattle.ledger.specs.Queue.{Each, inside, Apart, enter, work}
 use Rattle.ledger.specs.Ledger.{Ledger, booking, canBeInTime, isOpen, nested, rule, bookingRules, refusal}
 use Rattle.ledger.specs.Sound.{Fair}
@@ -37,26 +38,26 @@ rule-only r false h = absurd (some-none r (sym h))
 
 -- a booking that the rules before the last let pass
 pub record Passed (l : Ledger) (j : Job) : Type 0 where
-  pub number : (eqb (j .number) 0 || ltb 999999 (j .number)) ≡ false
+  pub number : (eqb (j .number) 0 || ltb largestNumber (j .number)) ≡ false
   pub slots : (ltb (j .release) (l .clock) || (leb (j .due) (j .release) || ltb (l .slots) (j .due))) ≡ false
-  pub left : (eqb (j .left) 0 || ltb 600 (j .left)) ≡ false
+  pub left : (eqb (j .left) 0 || ltb mostWork (j .left)) ≡ false
   pub closed : isOpen (j .number) (l .queue) ≡ false
-  pub room : (leb 64 (length (l .queue)) || ltb 600 (work (l .queue) + j .left)) ≡ false
+  pub room : (leb mostJobs (length (l .queue)) || ltb mostWork (work (l .queue) + j .left)) ≡ false
   pub apart : nested (l .clock) j (l .queue) ≡ false
 
 -- where the first rule that holds is none of those before the last
 passes : (l : Ledger) (j : Job) (rest m : Option Refusal) → ((r : Refusal) → refusalNumber r ≤ 8 → Some r ≡ m → ⊥) → bookingRules l j rest ≡ m → Passed l j × (rest ≡ m)
 passes l j rest m late h =
     let b4 = ltb (j .release) (l .clock) || (leb (j .due) (j .release) || ltb (l .slots) (j .due)) in
-    let b5 = eqb (j .left) 0 || ltb 600 (j .left) in
+    let b5 = eqb (j .left) 0 || ltb mostWork (j .left) in
     let b6 = isOpen (j .number) (l .queue) in
-    let b7 = leb 64 (length (l .queue)) || ltb 600 (work (l .queue) + j .left) in
+    let b7 = leb mostJobs (length (l .queue)) || ltb mostWork (work (l .queue) + j .left) in
     let b8 = nested (l .clock) j (l .queue) in
     let r8 = rule Nested b8 rest in
     let r7 = rule NoRoom b7 r8 in
     let r6 = rule NumberOpen b6 r7 in
     let r5 = rule JobWork b5 r6 in
-    let a3 = rule-past JobNumber (eqb (j .number) 0 || ltb 999999 (j .number)) (rule JobSlots b4 r5) m (late JobNumber (omega arith)) h in
+    let a3 = rule-past JobNumber (eqb (j .number) 0 || ltb largestNumber (j .number)) (rule JobSlots b4 r5) m (late JobNumber (omega arith)) h in
     let a4 = rule-past JobSlots b4 r5 m (late JobSlots (omega arith)) (a3 .1) in
     let a5 = rule-past JobWork b5 r6 m (late JobWork (omega arith)) (a4 .1) in
     let a6 = rule-past NumberOpen b6 r7 m (late NumberOpen (omega arith)) (a5 .1) in
@@ -109,15 +110,15 @@ unnested-apart c j (i ∷ q) h =
 
 pub passed-fair : (l : Ledger) (j : Job) → Passed l j → Fair (l .clock) (l .slots) j
 passed-fair l j p =
-    let a = or-parts (eqb (j .number) 0) (ltb 999999 (j .number)) (p .number) in
+    let a = or-parts (eqb (j .number) 0) (ltb largestNumber (j .number)) (p .number) in
     let b = or-parts (ltb (j .release) (l .clock)) (leb (j .due) (j .release) || ltb (l .slots) (j .due)) (p .slots) in
     let d = or-parts (leb (j .due) (j .release)) (ltb (l .slots) (j .due)) (b .1) in
-    let e = or-parts (eqb (j .left) 0) (ltb 600 (j .left)) (p .left) in
+    let e = or-parts (eqb (j .left) 0) (ltb mostWork (j .left)) (p .left) in
     let nz : j .number ≡ 0 → ⊥ = eqb-false (j .number) 0 (a .0) in
-    let nm : j .number ≤ 999999 = ltb-false 999999 (j .number) (a .1) in
+    let nm : j .number ≤ largestNumber = ltb-false largestNumber (j .number) (a .1) in
     let rc : l .clock ≤ j .release = ltb-false (j .release) (l .clock) (b .0) in
     let rd : j .release < j .due = leb-false (j .due) (j .release) (d .0) in
     let ds : j .due ≤ l .slots = ltb-false (l .slots) (j .due) (d .1) in
     let lz : j .left ≡ 0 → ⊥ = eqb-false (j .left) 0 (e .0) in
-    let lm : j .left ≤ 600 = ltb-false 600 (j .left) (e .1) in
+    let lm : j .left ≤ mostWork = ltb-false mostWork (j .left) (e .1) in
     record { numbered = omega arith; number-within = nm; some-left = omega arith; left-within = lm; released-before-due = rd; due-ahead = omega arith; due-within = ds }

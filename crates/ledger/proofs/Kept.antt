@@ -15,9 +15,9 @@ use Rattle.recursion.specs.Speeds.{lawfulSpeeds}
 use Rattle.ledger.specs.declared.job.Job.{Job}
 use Rattle.ledger.specs.declared.refusal.Refusal.{Refusal}
 use Rattle.ledger.specs.declared.refusal.Refusal.the-variants.{SlotCount, SpeedList, StayOver, NotPlanned}
+use Rattle.ledger.specs.Limits.{mostSlots, mostJobs, mostWork, largestNumber}
 use Rattle.ledger.specs.Queue.{Each, Distinct, Apart, Unnested, before, enter, strike, work, lower, pumped, pumpSlot}
-use Rattle.ledger.specs.Ledger.{Ledger, Standing, noPlan, plan, Charges, Call, opening, booking, withdrawing, planning, running, slotsLeft, pumpFor, noCharge, Sequence, topThroughout, canBeInTime, planFor, isPlanned, rule, refusal, withPlan, withQueue, slotRun, runBy, accepted, unlessRefused, new, ledger}
-use Rattle.ledger.specs.Promise.{entered}
+use Rattle.ledger.specs.Ledger.{Ledger, Standing, noPlan, plan, Charges, Call, opening, booking, withdrawing, planning, running, slotsLeft, pumpFor, noCharge, Sequence, topThroughout, canBeInTime, planFor, isPlanned, rule, refusal, withPlan, withQueue, entered, slotRun, runBy, accepted, unlessRefused, new, ledger}
 use Rattle.ledger.specs.Sound.{Fair, PlanFits, Sound}
 use Rattle.ledger.proofs.Queues.{each-map, each-zip, lined, unnested-later, each-enter, pairs-enter, ordered-enter, length-enter, work-enter, each-strike, pairs-strike, length-strike, work-strike}
 use Rattle.ledger.proofs.Slots.{each-slot, open-left, ordered-slot, unnested-slot, distinct-slot, length-pumped, work-falls, work-open-same, count-falls}
@@ -48,11 +48,11 @@ justOpened n ss = record { slots = n; speeds = ss; clock = 0; queue = []; standi
 
 opening-sound : (l : Ledger) (n : ℕ) (ss : List ℕ) → refusal l (opening n ss) ≡ None → Sound (justOpened n ss)
 opening-sound l n ss h =
-    let a = rule-none SlotCount (eqb n 0 || ltb 96 n) (rule SpeedList (not (lawfulSpeeds ss)) None) h in
+    let a = rule-none SlotCount (eqb n 0 || ltb mostSlots n) (rule SpeedList (not (lawfulSpeeds ss)) None) h in
     let lw : lawfulSpeeds ss ≡ true = not-false (lawfulSpeeds ss) (rule-none SpeedList (not (lawfulSpeeds ss)) None (a .1) .0) in
-    let p = or-parts (eqb n 0) (ltb 96 n) (a .0) in
+    let p = or-parts (eqb n 0) (ltb mostSlots n) (a .0) in
     let nz : n ≡ 0 → ⊥ = eqb-false n 0 (p .0) in
-    let le : n ≤ 96 = ltb-false 96 n (p .1) in
+    let le : n ≤ mostSlots = ltb-false mostSlots n (p .1) in
     let m = justOpened n ss in
     record {
       some-slot = omega arith;
@@ -96,9 +96,9 @@ passed-sorted l j w p = record {
 
 pub entered-sound : (l : Ledger) (j : Job) → Sound l → Passed l j → canBeInTime l (enter j (l .queue)) ≡ true → Sound (entered j l)
 entered-sound l j w p h =
-    let s = or-parts (leb 64 (length (l .queue))) (ltb 600 (work (l .queue) + j .left)) (p .room) in
-    let le : length (l .queue) < 64 = leb-false 64 (length (l .queue)) (s .0) in
-    let lw : work (l .queue) + j .left ≤ 600 = ltb-false 600 (work (l .queue) + j .left) (s .1) in
+    let s = or-parts (leb mostJobs (length (l .queue))) (ltb mostWork (work (l .queue) + j .left)) (p .room) in
+    let le : length (l .queue) < mostJobs = leb-false mostJobs (length (l .queue)) (s .0) in
+    let lw : work (l .queue) + j .left ≤ mostWork = ltb-false mostWork (work (l .queue) + j .left) (s .1) in
     let len = length-enter j (l .queue) in
     let wrk = work-enter j (l .queue) in
     record {
@@ -166,8 +166,8 @@ planned-sound l t o mark w = record {
 -- a job but for its left, whatever the clock
 record Mild (n : ℕ) (j : Job) : Type 0 where
   numbered : 1 ≤ j .number
-  number-within : j .number ≤ 999999
-  left-within : j .left ≤ 600
+  number-within : j .number ≤ largestNumber
+  left-within : j .left ≤ mostWork
   released-before-due : j .release < j .due
   due-within : j .due ≤ n
 

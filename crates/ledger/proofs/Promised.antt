@@ -19,8 +19,8 @@ use Rattle.recursion.proofs.Rising.{lawful-gives}
 use Rattle.recursion.proofs.Sequences.{pump-optimal}
 use Rattle.ledger.specs.declared.job.Job.{Job}
 use Rattle.ledger.specs.Queue.{Each, Gone, enter}
-use Rattle.ledger.specs.Ledger.{Ledger, Charges, Call, booking, slotsLeft, pumpFor, noCharge, Sequence, topThroughout, canBeInTime, planFor, refusal, slotRun, ledger}
-use Rattle.ledger.specs.Promise.{runs, Finishes, Rival, IsBest, entered, ExactVerdict, Upheld, Promise}
+use Rattle.ledger.specs.Ledger.{Ledger, Charges, Call, booking, slotsLeft, pumpFor, noCharge, Sequence, topThroughout, canBeInTime, planFor, refusal, entered, slotRun, ledger}
+use Rattle.ledger.specs.Promise.{runs, Finishes, Rival, IsBest, ExactVerdict, Upheld, Promise}
 use Rattle.ledger.specs.Sound.{Fair, Sound}
 use Rattle.ledger.specs.Theorems.{InLine, Runs-agree, MeasuredPlan}
 use Rattle.ledger.proofs.Queues.{each-map, each-zip, lined}

@@ -13,6 +13,7 @@ use Rattle.recursion.specs.Staged.{In}
 use Rattle.recursion.specs.Pumps.{Pump, InTime, Listed}
 use Rattle.recursion.specs.Speeds.{lawfulSpeeds}
 use Rattle.ledger.specs.declared.job.Job.{Job}
+use Rattle.ledger.specs.Limits.{mostSlots, mostJobs, mostWork, largestNumber}
 use Rattle.ledger.specs.Queue.{Each, Pairs, Distinct, Ordered, Apart, Unnested, inside, before, work}
 use Rattle.ledger.specs.Ledger.{Ledger, Standing, noPlan, plan, slotsLeft, pumpFor, noCharge, keepsTime, topThroughout, canBeInTime}
 use Rattle.ledger.specs.Sound.{Fair, PlanFits}
@@ -49,9 +50,9 @@ decides-in-time y k e ss = (keeps-in-time y k e ss, in-time-keeps y k e ss)
 
 decides-fair : (c n : ℕ) (j : Job) → Decides (fair c n j) (Fair c n j)
 decides-fair c n j =
-    let P : Type 0 = (1 ≤ j .number) × ((j .number ≤ 999999) × ((1 ≤ j .left) × ((j .left ≤ 600) × ((j .release < j .due) × ((c < j .due) × (j .due ≤ n)))))) in
+    let P : Type 0 = (1 ≤ j .number) × ((j .number ≤ largestNumber) × ((1 ≤ j .left) × ((j .left ≤ mostWork) × ((j .release < j .due) × ((c < j .due) × (j .due ≤ n)))))) in
     let d : Decides (fair c n j) P =
-    decides-and _ _ (decides-leb 1 (j .number)) (decides-and _ _ (decides-leb (j .number) 999999) (decides-and _ _ (decides-leb 1 (j .left)) (decides-and _ _ (decides-leb (j .left) 600)
+    decides-and _ _ (decides-leb 1 (j .number)) (decides-and _ _ (decides-leb (j .number) largestNumber) (decides-and _ _ (decides-leb 1 (j .left)) (decides-and _ _ (decides-leb (j .left) mostWork)
     (decides-and _ _ (decides-ltb (j .release) (j .due)) (decides-and _ _ (decides-ltb c (j .due)) (decides-leb (j .due) n)))))) in
     decides-like {P = P} (fair c n j)
     (λ h. record { numbered = h .0; number-within = h .1 .0; some-left = h .1 .1 .0; left-within = h .1 .1 .1 .0; released-before-due = h .1 .1 .1 .1 .0; due-ahead = h .1 .1 .1 .1 .1 .0; due-within = h .1 .1 .1 .1 .1 .1 })
@@ -71,10 +72,10 @@ pub sound-is-tested : Sound-is-tested
 sound-is-tested l =
     let q = l .queue in
     let c = l .clock in
-    let P : Type 0 = (1 ≤ l .slots) × ((l .slots ≤ 96) × ((c ≤ l .slots) × ((lawfulSpeeds (l .speeds) ≡ true) × ((length q ≤ 64) × ((work q ≤ 600) × (Each (Fair c (l .slots)) q × (Distinct q × (Ordered q × (Unnested c q × ((canBeInTime l q ≡ true) × PlanFits l (l .standing))))))))))) in
+    let P : Type 0 = (1 ≤ l .slots) × ((l .slots ≤ mostSlots) × ((c ≤ l .slots) × ((lawfulSpeeds (l .speeds) ≡ true) × ((length q ≤ mostJobs) × ((work q ≤ mostWork) × (Each (Fair c (l .slots)) q × (Distinct q × (Ordered q × (Unnested c q × ((canBeInTime l q ≡ true) × PlanFits l (l .standing))))))))))) in
     let d : Decides (sound l) P =
-    decides-and _ _ (decides-leb 1 (l .slots)) (decides-and _ _ (decides-leb (l .slots) 96) (decides-and _ _ (decides-leb c (l .slots)) (decides-and _ _ (decides-true (lawfulSpeeds (l .speeds)))
-    (decides-and _ _ (decides-leb (length q) 64) (decides-and _ _ (decides-leb (work q) 600) (decides-and _ _ (decides-each (fair c (l .slots)) (Fair c (l .slots)) (decides-fair c (l .slots)) q)
+    decides-and _ _ (decides-leb 1 (l .slots)) (decides-and _ _ (decides-leb (l .slots) mostSlots) (decides-and _ _ (decides-leb c (l .slots)) (decides-and _ _ (decides-true (lawfulSpeeds (l .speeds)))
+    (decides-and _ _ (decides-leb (length q) mostJobs) (decides-and _ _ (decides-leb (work q) mostWork) (decides-and _ _ (decides-each (fair c (l .slots)) (Fair c (l .slots)) (decides-fair c (l .slots)) q)
     (decides-and _ _ (decides-pairs (λ j i. not (eqb (i .number) (j .number))) (λ j i. i .number ≡ j .number → ⊥) (λ j i. decides-not (eqb (i .number) (j .number)) (decides-eqb (i .number) (j .number))) q)
     (decides-and _ _ (decides-pairs before (λ j i. before j i ≡ true) (λ j i. decides-true (before j i)) q)
     (decides-and _ _ (decides-pairs (λ j i. not (inside c i j) && not (inside c j i)) (Apart c) (λ j i. decides-and (not (inside c i j)) (not (inside c j i)) (decides-false (inside c i j)) (decides-false (inside c j i))) q)

@@ -14,6 +14,7 @@ use Rattle.recursion.specs.Speeds.{lawfulSpeeds}
 use Rattle.ledger.specs.declared.job.Job.{Job}
 use Rattle.ledger.specs.declared.refusal.Refusal.{Refusal}
 use Rattle.ledger.specs.declared.refusal.Refusal.the-variants.{SlotCount, SpeedList, JobNumber, JobSlots, JobWork, NumberOpen, NoRoom, Nested, NotInTime, NoSuchJob, ShortMemory, StayOver, NotPlanned}
+use Rattle.ledger.specs.Limits.{mostSlots, mostJobs, mostWork, largestNumber}
 use Rattle.ledger.specs.Queue.{inside, enter, strike, arrived, owed, work, pumpSlot}
 
 -- the standing plan: its mark, and a speed for each slot not yet run
@@ -57,7 +58,7 @@ pumpFor speeds q charge = record { speeds = speeds; arrived = arrived q; due = o
 abbrev pub noCharge : ℕ → ℕ → ℕ
 noCharge k s = 0
 
--- one listed speed for each slot from the clock to the last, in time for the queue q
+-- one listed speed for each slot from the clock to the last, in time for the queue q; charges play no part in it
 abbrev pub Sequence : Ledger → List Job → List ℕ → Type 0
 Sequence l q ss = InTimeSequence (pumpFor (l .speeds) q noCharge) (slotsLeft l) (l .clock) 0 ss
 
@@ -66,10 +67,11 @@ abbrev pub keepsTime : Pump → ℕ → ℕ → List ℕ → Bool
 keepsTime y k e [] = true
 keepsTime y k e (s ∷ ss) = leb (y .due (suc k)) (workAfter y k e s) && keepsTime y (suc k) (workAfter y k e s) ss
 
--- the last speed of a list, which is the fastest where the list is lawful, in every slot from the clock on
+-- the last speed of a list, which is the fastest where the list is lawful
 abbrev pub topOf : List ℕ → ℕ
 topOf speeds = getD speeds (length speeds - 1) 0
 
+-- top speed in every slot from the clock on
 abbrev pub topThroughout : Ledger → List ℕ
 topThroughout l = replicate (slotsLeft l) (topOf (l .speeds))
 
@@ -111,18 +113,18 @@ rule r holds rest = cond holds (Some r) rest
 -- the rules of a booking but for the last, then the rest
 abbrev pub bookingRules : Ledger → Job → Option Refusal → Option Refusal
 bookingRules l j rest =
-    rule JobNumber (eqb (j .number) 0 || ltb 999999 (j .number))
+    rule JobNumber (eqb (j .number) 0 || ltb largestNumber (j .number))
     (rule JobSlots (ltb (j .release) (l .clock) || (leb (j .due) (j .release) || ltb (l .slots) (j .due)))
-    (rule JobWork (eqb (j .left) 0 || ltb 600 (j .left))
+    (rule JobWork (eqb (j .left) 0 || ltb mostWork (j .left))
     (rule NumberOpen (isOpen (j .number) (l .queue))
-    (rule NoRoom (leb 64 (length (l .queue)) || ltb 600 (work (l .queue) + j .left))
+    (rule NoRoom (leb mostJobs (length (l .queue)) || ltb mostWork (work (l .queue) + j .left))
     (rule Nested (nested (l .clock) j (l .queue))
     rest)))))
 
 -- the first rule that holds
 abbrev pub refusal : Ledger → Call → Option Refusal
 refusal l (opening n ss) =
-    rule SlotCount (eqb n 0 || ltb 96 n)
+    rule SlotCount (eqb n 0 || ltb mostSlots n)
     (rule SpeedList (not (lawfulSpeeds ss))
     None)
 refusal l (booking j) =
@@ -149,6 +151,9 @@ withPlan p l = record { slots = l .slots; speeds = l .speeds; clock = l .clock; 
 abbrev pub withQueue : List Job → Ledger → Ledger
 withQueue q l = record { slots = l .slots; speeds = l .speeds; clock = l .clock; queue = q; standing = noPlan }
 
+abbrev pub entered : Job → Ledger → Ledger
+entered j l = withQueue (enter j (l .queue)) l
+
 -- the slot at the clock run at speed s
 abbrev pub slotRun : ℕ → Ledger → Ledger
 slotRun s l = record { slots = l .slots; speeds = l .speeds; clock = suc (l .clock); queue = pumpSlot (l .clock) s (l .queue); standing = l .standing }
@@ -162,7 +167,7 @@ runBy (plan mark (s ∷ ss)) l = withPlan (plan mark ss) (slotRun s l)
 -- a call that is not refused
 abbrev pub accepted : Ledger → Call → Ledger
 accepted l (opening n ss) = record { slots = n; speeds = ss; clock = 0; queue = []; standing = noPlan }
-accepted l (booking j) = withQueue (enter j (l .queue)) l
+accepted l (booking j) = entered j l
 accepted l (withdrawing n) = withQueue (strike n (l .queue)) l
 accepted l (planning t o mark bytes measures) = withPlan (plan mark (planFor l t o)) l
 accepted l running = runBy (l .standing) l

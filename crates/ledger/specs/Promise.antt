@@ -11,8 +11,8 @@ use Rattle.recursion.specs.Pumps.{Listed}
 use Rattle.ledger.specs.declared.job.Job.{Job}
 use Rattle.ledger.specs.declared.refusal.Refusal.{Refusal}
 use Rattle.ledger.specs.declared.refusal.Refusal.the-variants.{NotInTime}
-use Rattle.ledger.specs.Queue.{Each, Gone, enter}
-use Rattle.ledger.specs.Ledger.{Ledger, Charges, Call, booking, slotsLeft, planFor, chargesOf, bookingRules, refusal, withQueue, slotRun, ledger}
+use Rattle.ledger.specs.Queue.{Each, Gone}
+use Rattle.ledger.specs.Ledger.{Ledger, Charges, Call, booking, slotsLeft, planFor, chargesOf, bookingRules, refusal, entered, slotRun, ledger}
 use Rattle.ledger.specs.Sound.{Sound}
 use Rattle.ledger.specs.AnswerLaws.{AnswerIsLawful}
 
@@ -35,9 +35,6 @@ pub record Rival (l : Ledger) (ss : List ℕ) : Type 0 where
 pub record IsBest (l : Ledger) (t : Charges) (o : Order) (ss : List ℕ) : Type 0 where
   pub finishes : Rival l ss
   pub none-below : (rs : List ℕ) → Rival l rs → o .notAbove (chargesOf l t ss) (chargesOf l t rs) ≡ true
-
-abbrev pub entered : Job → Ledger → Ledger
-entered j l = withQueue (enter j (l .queue)) l
 
 -- a verdict on a booking is exact if, where no rule before the last refuses it, it says "not in time" exactly if
 -- no speeds finish the job and all open jobs in time, and else takes the job

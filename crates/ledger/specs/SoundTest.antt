@@ -7,6 +7,7 @@ use lib.ListN.{length}
 use Rattle.std.specs.Orderings.{Decides}
 use Rattle.recursion.specs.Speeds.{lawfulSpeeds}
 use Rattle.ledger.specs.declared.job.Job.{Job}
+use Rattle.ledger.specs.Limits.{mostSlots, mostJobs, mostWork, largestNumber}
 use Rattle.ledger.specs.Queue.{inside, before, work}
 use Rattle.ledger.specs.Ledger.{Ledger, Standing, noPlan, plan, slotsLeft, pumpFor, noCharge, keepsTime, canBeInTime}
 use Rattle.ledger.specs.Sound.{Sound}
@@ -29,7 +30,7 @@ listed speeds (s ∷ ss) = isIn s speeds && listed speeds ss
 
 abbrev pub fair : ℕ → ℕ → Job → Bool
 fair clock slots j =
-    leb 1 (j .number) && (leb (j .number) 999999 && (leb 1 (j .left) && (leb (j .left) 600
+    leb 1 (j .number) && (leb (j .number) largestNumber && (leb 1 (j .left) && (leb (j .left) mostWork
     && (ltb (j .release) (j .due) && (ltb clock (j .due) && leb (j .due) slots)))))
 
 abbrev pub planFits : Ledger → Standing → Bool
@@ -40,8 +41,8 @@ planFits l (plan mark ss) =
 
 abbrev pub sound : Ledger → Bool
 sound l =
-    leb 1 (l .slots) && (leb (l .slots) 96 && (leb (l .clock) (l .slots) && (lawfulSpeeds (l .speeds)
-    && (leb (length (l .queue)) 64 && (leb (work (l .queue)) 600
+    leb 1 (l .slots) && (leb (l .slots) mostSlots && (leb (l .clock) (l .slots) && (lawfulSpeeds (l .speeds)
+    && (leb (length (l .queue)) mostJobs && (leb (work (l .queue)) mostWork
     && (each (fair (l .clock) (l .slots)) (l .queue)
     && (pairs (λ j i. not (eqb (i .number) (j .number))) (l .queue)
     && (pairs before (l .queue)

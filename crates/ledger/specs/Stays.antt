@@ -6,7 +6,7 @@ use native.Mathlib.Omega.{arith}
 use lib.ListN.{getD}
 use Rattle.std.specs.declared.option.Option.{Option}
 use Rattle.std.specs.declared.option.Option.the-variants.{Some, None}
-use Rattle.tariff.specs.Bounds.{priced}
+use Rattle.tariff.specs.Bounds.{priceListCharge, tableCharge}
 use Rattle.tariff.specs.Charges.{largestCharge}
 use Rattle.measure.specs.Energies.{energy-laws}
 use Rattle.measure.specs.Orders.{Order, orderOf}
@@ -32,10 +32,10 @@ energy-bounded (suc (suc (suc (suc s)))) = omega arith
 
 -- the energies, and the same at the prices 1, 1, 9, 9
 abbrev pub table : Charges
-table = record { charge = λ k s. getD (1 ∷ 4 ∷ 0 ∷ 15 ∷ []) s 0; bounded = λ k s _ _. energy-bounded s }
+table = record { charge = tableCharge (1 ∷ 4 ∷ 0 ∷ 15 ∷ []); bounded = λ k s _ _. energy-bounded s }
 
 abbrev pub pricedTable : Charges
-pricedTable = record { charge = λ k s. priced (table .charge k s) (getD (1 ∷ 1 ∷ 9 ∷ 9 ∷ []) k 0); bounded = λ k s _ _. omega arith }
+pricedTable = record { charge = priceListCharge (table .charge) (1 ∷ 1 ∷ 9 ∷ 9 ∷ []); bounded = λ k s _ _. omega arith }
 
 -- number, release, due slot, work
 abbrev pub job : ℕ → ℕ → ℕ → ℕ → Job
