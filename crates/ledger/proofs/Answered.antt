@@ -110,6 +110,7 @@ run-lawful l (plan mark (s ∷ ss)) e lt f h =
       speed = s;
       rest = ss;
       stood = e;
+      queue = refl;
       gone = gone;
       answers = ap (λ (v : ℕ). ran s v gone) units;
       falls = work-falls k s q ∙ ap (λ v. v + unitsPumped k s q) (sym (work-open-same (pumped k s q))) ∙ ap (λ v. work (pumpSlot k s q) + v) units;

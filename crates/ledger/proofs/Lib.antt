@@ -10,3 +10,4 @@ pub mod Asked
 pub mod Promised
 pub mod Refuted
 pub mod Tested
+pub mod Arrivals

@@ -85,5 +85,7 @@ refuted = record {
       promised bare running .at-the-call .next-booking-is-exact (job 1 0 1 4) .refused-rightly refl (r .0) (r .1);
   plain-release = (refl, refl);
   peak-then-energy = (refl, refl);
+  all-level = λ o level. clash (sym (o .faithful 1 0 (omega arith) (omega arith)) ∙ level (1 ∷ []) (0 ∷ []));
+  clock-alone = λ l m a w e. omega (arith, w .clock, e);
   no-measure = λ w. clash (w .monotone (peakEnergy 4 9) (peakEnergy 5 1) (peakEnergy 6 0) refl);
 }

@@ -7,7 +7,7 @@ use lib.ListN.{length}
 use Rattle.std.specs.declared.option.Option.the-variants.{Some, None}
 use Rattle.ledger.specs.declared.job.Job.{Job}
 use Rattle.ledger.specs.declared.refusal.Refusal.{Refusal}
-use Rattle.ledger.specs.Queue.{Each, before, work, arrived}
+use Rattle.ledger.specs.Queue.{Each, before, work, arrived, pumpSlot}
 use Rattle.ledger.specs.Ledger.{Ledger, noPlan, plan, Call, opening, booking, withdrawing, planning, running, refusal, after, slotsLeft, planFor, chargesOf}
 use Rattle.ledger.specs.Answers.{Answer, refused, opened, booked, withdrew, planned, ran, answer}
 
@@ -68,6 +68,8 @@ pub record RunIsLawful (l m : Ledger) (a : Answer) : Type 0 where
   pub answers : a ≡ ran speed (min speed (arrived (l .queue) (l .clock))) gone
   pub falls : work (l .queue) ≡ work (m .queue) + min speed (arrived (l .queue) (l .clock))
   pub count-falls : length (l .queue) ≡ length (m .queue) + gone
+  -- in queue order
+  pub queue : m .queue ≡ pumpSlot (l .clock) speed (l .queue)
   pub slots : m .slots ≡ l .slots
   pub speeds : m .speeds ≡ l .speeds
   pub clock : m .clock ≡ suc (l .clock)

@@ -26,8 +26,8 @@ abbrev pub lefts : List Job → List ℕ
 lefts [] = []
 lefts (j ∷ q) = j .left ∷ lefts q
 
-abbrev pub standing : List Call → List Job
-standing h = ledger h .queue
+abbrev pub queueAfter : List Call → List Job
+queueAfter h = ledger h .queue
 
 -- speeds from 0 to 15, and to 16
 abbrev pub sixteen : List ℕ
@@ -47,7 +47,7 @@ heavy = booking (job 1 0 96 599) ∷ long
 pub record RuleEdges : Type 0 where
   -- 1: slots 0, 1, 96, 97
   pub slots : met [] (opening 0 (0 ∷ 1 ∷ []) ∷ opening 1 (0 ∷ 1 ∷ []) ∷ opening 96 (0 ∷ 1 ∷ []) ∷ opening 97 (0 ∷ 1 ∷ []) ∷ []) ≡ 1 ∷ 0 ∷ 0 ∷ 1 ∷ []
-  -- 2: no speed, 1, 2, 16, 17; from 1; level; falling; up to 15, to 16
+  -- 2: no speed, 1, 2, 16, 17 (17 that rise strictly from 0 also end above 15); from 1; level; falling; up to 15, to 16
   pub speed-count : met [] (opening 4 [] ∷ opening 4 (0 ∷ []) ∷ opening 4 (0 ∷ 1 ∷ []) ∷ opening 4 sixteen ∷ opening 4 seventeen ∷ []) ≡ 2 ∷ 2 ∷ 0 ∷ 0 ∷ 2 ∷ []
   pub speed-order : met [] (opening 4 (1 ∷ 2 ∷ []) ∷ opening 4 (0 ∷ 1 ∷ 1 ∷ []) ∷ opening 4 (0 ∷ 2 ∷ 1 ∷ []) ∷ opening 4 (0 ∷ 15 ∷ []) ∷ opening 4 (0 ∷ 16 ∷ []) ∷ []) ≡ 2 ∷ 2 ∷ 2 ∷ 0 ∷ 2 ∷ []
   -- 3: numbers 0, 1, 999,999, 1,000,000
@@ -70,9 +70,13 @@ pub record RuleEdges : Type 0 where
   pub open-inside : met (booking (job 1 1 3 1) ∷ bare) (booking (job 2 0 4 1) ∷ booking (job 2 0 3 1) ∷ booking (job 2 1 4 1) ∷ booking (job 2 2 4 1) ∷ []) ≡ 8 ∷ 0 ∷ 0 ∷ 0 ∷ []
   -- by the counted release: with the clock at 1, a release of 1 is no later than one of 0, and one of 2 is
   pub counted-release : met clockAtOne (booking (job 1 1 3 1) ∷ booking (job 1 2 3 1) ∷ []) ≡ 0 ∷ 8 ∷ []
+  -- numbers past what a byte or two can hold are not cut
+  pub wide-numbers : met bare (opening 260 (0 ∷ 1 ∷ []) ∷ opening 4 (0 ∷ 257 ∷ []) ∷ booking (job 1 256 260 1) ∷ booking (job 1 0 260 1) ∷ booking (job 1 0 4 65537) ∷ []) ≡ 1 ∷ 2 ∷ 4 ∷ 4 ∷ 5 ∷ []
   -- 9: as much as top speed can do, and one more; alone, and beside another job
   pub in-time : met bare (booking (job 1 0 1 3) ∷ booking (job 1 0 1 4) ∷ booking (job 1 3 4 3) ∷ booking (job 1 3 4 4) ∷ []) ≡ 0 ∷ 9 ∷ 0 ∷ 9 ∷ []
   pub in-time-beside : met (earlyJob ∷ bare) (booking (job 1 1 4 9) ∷ booking (job 1 1 4 10) ∷ booking (job 1 0 1 2) ∷ booking (job 1 0 2 4) ∷ booking (job 1 0 2 5) ∷ []) ≡ 0 ∷ 9 ∷ 0 ∷ 0 ∷ 9 ∷ []
+  -- a new job that is in time itself can make an open one late
+  pub makes-another-late : met (booking (job 1 0 2 5) ∷ bare) (booking (job 2 0 1 1) ∷ booking (job 2 0 1 2) ∷ []) ≡ 0 ∷ 9 ∷ []
   -- 10: an open number; one that no job has, or none could have; one that was withdrawn; one that is finished
   pub withdrawing-open : met both (withdrawing 101 ∷ withdrawing 102 ∷ withdrawing 103 ∷ withdrawing 0 ∷ withdrawing 1000000 ∷ []) ≡ 0 ∷ 0 ∷ 10 ∷ 10 ∷ 10 ∷ []
   pub withdrawing-gone : met (withdrawing 101 ∷ both) (withdrawing 101 ∷ []) ≡ 10 ∷ []
@@ -99,30 +103,32 @@ pub record FirstRules : Type 0 where
   pub six-and-seven : met heavy (booking (job 1 0 96 2) ∷ []) ≡ 6 ∷ []
   pub seven-and-eight : met heavy (booking (job 2 1 95 2) ∷ []) ≡ 7 ∷ []
   pub seven-and-nine : met heavy (booking (job 2 0 1 20) ∷ []) ≡ 7 ∷ []
+  pub six-and-full : met (many 64) (booking (job 1 0 96 1) ∷ []) ≡ 6 ∷ []
+  pub full-and-more : met (many 64) (booking (job 100 1 95 1) ∷ booking (job 100 0 1 20) ∷ []) ≡ 7 ∷ 7 ∷ []
   pub eight-and-nine : met wide (booking (job 1 1 3 100) ∷ []) ≡ 8 ∷ []
   -- a ledger made by hand: no list of calls leads to the end with no plan
   pub twelve-and-thirteen : refusal (record { slots = 1; speeds = 0 ∷ 1 ∷ []; clock = 1; queue = []; standing = noPlan }) running ≡ Some StayOver
 
 pub record QueueEdges : Type 0 where
   -- by due slot, then by release; level jobs by the order of booking
-  pub by-due : numbers (standing (booking (job 1 0 2 1) ∷ booking (job 2 0 3 1) ∷ booking (job 3 0 4 1) ∷ bare)) ≡ 1 ∷ 2 ∷ 3 ∷ []
-  pub by-release : numbers (standing (booking (job 1 0 4 1) ∷ booking (job 2 1 4 1) ∷ booking (job 3 2 4 1) ∷ bare)) ≡ 1 ∷ 2 ∷ 3 ∷ []
-  pub due-first : numbers (standing (booking (job 1 1 4 1) ∷ booking (job 2 1 3 1) ∷ bare)) ≡ 2 ∷ 1 ∷ []
-  pub level : numbers (standing (booking (job 1 0 4 1) ∷ booking (job 3 0 4 1) ∷ booking (job 2 0 4 1) ∷ bare)) ≡ 2 ∷ 3 ∷ 1 ∷ []
-  pub level-between : numbers (standing (booking (job 5 1 4 1) ∷ booking (job 4 2 4 1) ∷ booking (job 6 1 4 1) ∷ booking (job 7 0 4 1) ∷ bare)) ≡ 7 ∷ 6 ∷ 5 ∷ 4 ∷ []
+  pub by-due : numbers (queueAfter (booking (job 1 0 2 1) ∷ booking (job 2 0 3 1) ∷ booking (job 3 0 4 1) ∷ bare)) ≡ 1 ∷ 2 ∷ 3 ∷ []
+  pub by-release : numbers (queueAfter (booking (job 1 0 4 1) ∷ booking (job 2 1 4 1) ∷ booking (job 3 2 4 1) ∷ bare)) ≡ 1 ∷ 2 ∷ 3 ∷ []
+  pub due-first : numbers (queueAfter (booking (job 1 1 4 1) ∷ booking (job 2 1 3 1) ∷ bare)) ≡ 2 ∷ 1 ∷ []
+  pub level : numbers (queueAfter (booking (job 1 0 4 1) ∷ booking (job 3 0 4 1) ∷ booking (job 2 0 4 1) ∷ bare)) ≡ 2 ∷ 3 ∷ 1 ∷ []
+  pub level-between : numbers (queueAfter (booking (job 5 1 4 1) ∷ booking (job 4 2 4 1) ∷ booking (job 6 1 4 1) ∷ booking (job 7 0 4 1) ∷ bare)) ≡ 7 ∷ 6 ∷ 5 ∷ 4 ∷ []
   -- at clock 1 the plain release still orders level due slots
-  pub plain-release-orders : numbers (standing (booking (job 1 1 4 1) ∷ clockAtOne)) ≡ 103 ∷ 1 ∷ []
+  pub plain-release-orders : numbers (queueAfter (booking (job 1 1 4 1) ∷ clockAtOne)) ≡ 103 ∷ 1 ∷ []
   -- what has arrived by slots 0, 1, 2, and what is owed by 1, 2, 3, 4
-  pub arrived-by : (arrived (standing both) 0 ≡ 2) × (arrived (standing both) 1 ≡ 5) × (arrived (standing both) 2 ≡ 5)
-  pub owed-by : (owed (standing both) 1 ≡ 0) × (owed (standing both) 2 ≡ 2) × (owed (standing both) 3 ≡ 2) × (owed (standing both) 4 ≡ 5)
+  pub arrived-by : (arrived (queueAfter both) 0 ≡ 2) × (arrived (queueAfter both) 1 ≡ 5) × (arrived (queueAfter both) 2 ≡ 5)
+  pub owed-by : (owed (queueAfter both) 1 ≡ 0) × (owed (queueAfter both) 2 ≡ 2) × (owed (queueAfter both) 3 ≡ 2) × (owed (queueAfter both) 4 ≡ 5)
   -- a slot: nothing before the release, at it no more than is left, the rest to the next job, and the finished gone
   pub before-release : lefts (pumpSlot 0 3 (job 1 1 4 2 ∷ [])) ≡ 2 ∷ []
   pub at-release : lefts (pumpSlot 1 1 (job 1 1 4 2 ∷ [])) ≡ 1 ∷ []
   pub no-more-than-left : lefts (pumpSlot 1 3 (job 1 1 4 2 ∷ [])) ≡ []
   pub rest-to-next : lefts (pumpSlot 1 3 (job 1 1 4 2 ∷ job 2 1 4 2 ∷ job 3 1 4 2 ∷ [])) ≡ 1 ∷ 2 ∷ []
-  -- a released job behind an unreleased one is pumped
-  pub behind-unreleased : numbers (pumpSlot 0 3 (job 1 1 4 2 ∷ job 2 0 4 2 ∷ [])) ≡ 1 ∷ []
-  pub behind-unreleased-units : (unitsPumped 0 3 (job 1 1 4 2 ∷ job 2 0 4 2 ∷ []) ≡ 2) × (finished (pumped 0 3 (job 1 1 4 2 ∷ job 2 0 4 2 ∷ [])) ≡ 1)
+  -- in a queue made by hand, a released job behind an unreleased one is pumped
+  pub behind-unreleased : numbers (pumpSlot 0 3 (job 1 1 3 2 ∷ job 2 0 4 2 ∷ [])) ≡ 1 ∷ []
+  pub behind-unreleased-units : (unitsPumped 0 3 (job 1 1 3 2 ∷ job 2 0 4 2 ∷ []) ≡ 2) × (finished (pumped 0 3 (job 1 1 3 2 ∷ job 2 0 4 2 ∷ [])) ≡ 1)
 
 pub record AnswerEdges : Type 0 where
   pub opening-answers : told both (opening 4 (0 ∷ 1 ∷ [])) ≡ opened
@@ -147,6 +153,7 @@ pub record QuestionEdges : Type 0 where
   pub no-speeds : (speedAt (ledger both) 0 ≡ None) × (speedAt (ledger (withdrawing 101 ∷ run 0)) 0 ≡ None)
   pub mark : (markOf (ledger both) ≡ None) × (markOf (ledger (run 0)) ≡ Some 1) × (markOf (ledger (planning table peaks 2 24 12 ∷ run 0)) ≡ Some 2)
   pub mark-kept : (markOf (ledger (run 2)) ≡ Some 1) × (markOf (ledger (planning table peaks 2 23 12 ∷ run 0)) ≡ Some 1)
+  pub speeds-at-end : (speedAt (ledger (planning table peaks 2 0 2 ∷ ranOn 4 (byEnergy ∷ both))) 3 ≡ None) × (speedAt (ledger (planning table peaks 2 0 2 ∷ ranOn 4 (byEnergy ∷ both))) 4 ≡ None)
   pub mark-at-end : markOf (ledger (planning table peaks 2 0 2 ∷ run 4)) ≡ Some 2
 
 -- stay A with a clock, a queue and a standing plan

@@ -75,7 +75,7 @@ topOf speeds = getD speeds (length speeds - 1) 0
 abbrev pub topThroughout : Ledger → List ℕ
 topThroughout l = replicate (slotsLeft l) (topOf (l .speeds))
 
--- some sequence is in time for the queue q: top speed in every slot decides it
+-- some sequence is in time for the queue q, told by top speed in every slot: `top_speed_decides` says that this is exact
 abbrev pub canBeInTime : Ledger → List Job → Bool
 canBeInTime l q = keepsTime (pumpFor (l .speeds) q noCharge) (l .clock) 0 (topThroughout l)
 
@@ -155,6 +155,7 @@ abbrev pub entered : Job → Ledger → Ledger
 entered j l = withQueue (enter j (l .queue)) l
 
 -- the slot at the clock run at speed s
+-- (the standing plan is left as it is: where slots are run in place of a plan, only clock and queue are looked at)
 abbrev pub slotRun : ℕ → Ledger → Ledger
 slotRun s l = record { slots = l .slots; speeds = l .speeds; clock = suc (l .clock); queue = pumpSlot (l .clock) s (l .queue); standing = l .standing }
 

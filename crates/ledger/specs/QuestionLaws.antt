@@ -1,4 +1,4 @@
--- Words: the laws of the questions. For which places and slots there is an answer, and which.
+-- Words: the laws of the questions. For which places and slots there is an answer.
 use mathlib.Core.Path.{_≡_}
 use mathlib.Core.Bool.{true, false}
 use Prim.Native.Nat.{ℕ, _≤_, _<_}

@@ -33,10 +33,11 @@ counted clock j = max (j .release) clock
 abbrev pub inside : ℕ → Job → Job → Bool
 inside clock i j = ltb (counted clock j) (counted clock i) && ltb (i .due) (j .due)
 
--- no job of the queue lies inside another
+-- neither of two jobs lies inside the other
 abbrev pub Apart : ℕ → Job → Job → Type 0
 Apart clock j i = (inside clock i j ≡ false) × (inside clock j i ≡ false)
 
+-- nor do any two of the queue
 abbrev pub Unnested : ℕ → List Job → Type 0
 Unnested clock q = Pairs (Apart clock) q
 

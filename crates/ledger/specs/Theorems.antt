@@ -1,8 +1,8 @@
--- Words: running and work sums agree, top speed decides, a measure's own values.
+-- Words: running and work sums agree, top speed decides, open work arrives, a measure's own values.
 use mathlib.Core.Path.{_≡_}
 use mathlib.Core.Bool.{true, false}
-use mathlib.Core.List.{List}
-use Prim.Native.Nat.{ℕ, _≤_, _<_}
+use mathlib.Core.List.{List, []}
+use Prim.Native.Nat.{ℕ, _-_, _≤_, _<_}
 use lib.ListN.{length}
 use Rattle.measure.specs.Kinds.{Kind, Laws, measureOf}
 use Rattle.measure.specs.Orders.{orderOf}
@@ -11,7 +11,7 @@ use Rattle.recursion.specs.Pumps.{InTime, decisions, plannedSpeeds}
 use Rattle.recursion.specs.Speeds.{lawfulSpeeds}
 use Rattle.recursion.specs.Staged.{Rising}
 use Rattle.ledger.specs.declared.job.Job.{Job}
-use Rattle.ledger.specs.Queue.{Each, Distinct, Ordered, Unnested}
+use Rattle.ledger.specs.Queue.{Each, Distinct, Ordered, Unnested, arrived, work}
 use Rattle.ledger.specs.Ledger.{Ledger, Charges, slotsLeft, pumpFor, noCharge, Sequence, topThroughout, canBeInTime, planFor, chargesOf}
 use Rattle.ledger.specs.Promise.{Finishes, Rival}
 
@@ -44,6 +44,11 @@ pub record TopDecides (l : Ledger) (q : List Job) : Type 0 where
 
 abbrev pub Top-speed-decides : Type 0
 Top-speed-decides = (l : Ledger) (q : List Job) → lawfulSpeeds (l .speeds) ≡ true → TopDecides l q
+
+-- the open work of a ledger: while a slot is left, all of it has arrived by the last slot; at the end there is none
+pub record OpenWorkArrives (l : Ledger) : Type 0 where
+  pub by-last-slot : arrived (l .queue) (l .slots - 1) ≡ work (l .queue)
+  pub none-at-end : l .clock ≡ l .slots → l .queue ≡ []
 
 -- the promise of planning in the words of a measure of its own
 pub record MeasuredPlan {M : Type 0} (q : Kind M) (laws : Laws q) (l : Ledger) (t : Charges) : Type 0 where

@@ -13,7 +13,9 @@ use Rattle.measure.specs.Orders.{Order}
 use Rattle.ledger.specs.declared.job.Job.{Job}
 use Rattle.ledger.specs.declared.refusal.Refusal.{Refusal}
 use Rattle.ledger.specs.declared.refusal.Refusal.the-variants.{NotInTime}
-use Rattle.ledger.specs.Ledger.{Ledger, Charges, Call, booking, slotsLeft, topOf, topThroughout, planFor, nested, refusal, ledger}
+use Rattle.ledger.specs.Ledger.{Ledger, Charges, Call, booking, slotsLeft, topOf, topThroughout, planFor, nested, bookingRules, refusal, ledger}
+use Rattle.ledger.specs.Answers.{Answer}
+use Rattle.ledger.specs.AnswerLaws.{RunIsLawful}
 use Rattle.ledger.specs.Promise.{IsBest, ExactVerdict}
 use Rattle.ledger.specs.Stays.{job, wide, byEnergy, ranOn}
 
@@ -60,10 +62,10 @@ pub record Refuted : Type 0 where
   pub top-after-first : PlansBest topAfterFirst → ⊥
   -- no planner that ignores its tariff is
   pub tariff-ignored : (planner : Ledger → Order → List ℕ) → PlansBest (λ l t o. planner l o) → ⊥
-  -- the verdict of the ledger is right; always "not in time", and never, are not
+  -- the verdict of the ledger is right; with the rules before kept, always "not in time", and never, are not
   pub verdict : VerdictsExact (λ l j. refusal l (booking j))
-  pub always-late : VerdictsExact (λ l j. Some NotInTime) → ⊥
-  pub never-late : VerdictsExact (λ l j. None) → ⊥
+  pub always-late : VerdictsExact (λ l j. bookingRules l j (Some NotInTime)) → ⊥
+  pub never-late : VerdictsExact (λ l j. bookingRules l j None) → ⊥
   -- by the plain release the job that is taken after a slot would be nested
   pub plain-release :
       (nestedPlainly (job 1 1 3 1) (ledger (ranOn 1 (byEnergy ∷ wide)) .queue) ≡ true)
@@ -73,3 +75,7 @@ pub record Refuted : Type 0 where
       (peakThenEnergy .notAbove (peakEnergy 4 9) (peakEnergy 5 1) ≡ true)
       × (peakThenEnergy .notAbove (peakThenEnergy .join (peakEnergy 6 0) (peakEnergy 4 9)) (peakThenEnergy .join (peakEnergy 6 0) (peakEnergy 5 1)) ≡ false)
   pub no-measure : Laws peakThenEnergy → ⊥
+  -- an order that finds all lists level does not order charges as numbers
+  pub all-level : (o : Order) → ((a b : List ℕ) → o .notAbove a b ≡ true) → ⊥
+  -- a slot that leaves the clock alone is no lawful run
+  pub clock-alone : (l m : Ledger) (a : Answer) → RunIsLawful l m a → m .clock ≡ l .clock → ⊥

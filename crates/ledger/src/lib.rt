@@ -8,6 +8,7 @@ pub use job::Job;
 pub use laws::answers_are_lawful;
 pub use laws::ledger_is_sound;
 pub use laws::measured_plan_is_best;
+pub use laws::open_work_arrives;
 pub use laws::promise_holds;
 pub use laws::questions_are_lawful;
 pub use laws::runs_and_work_sums_agree;

@@ -1,4 +1,4 @@
-// Worked stays.
+// Worked stays, and wrong ways that they refute.
 ghost use Rattle.ledger.specs.Edges.{RuleEdges, FirstRules, QueueEdges, AnswerEdges, QuestionEdges, LedgerEdges, RunEdges};
 ghost use Rattle.ledger.specs.Trials.{Trials};
 ghost use Rattle.ledger.specs.Wrong.{Refuted};

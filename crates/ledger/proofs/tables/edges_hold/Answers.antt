@@ -21,8 +21,10 @@ returns c = record {
     inside-open = refl;
     open-inside = refl;
     counted-release = refl;
+    wide-numbers = refl;
     in-time = refl;
     in-time-beside = refl;
+    makes-another-late = refl;
     withdrawing-open = refl;
     withdrawing-gone = refl;
     withdrawing-finished = refl;
@@ -44,6 +46,8 @@ returns c = record {
     six-and-seven = refl;
     seven-and-eight = refl;
     seven-and-nine = refl;
+    six-and-full = refl;
+    full-and-more = refl;
     eight-and-nine = refl;
     twelve-and-thirteen = refl;
   };
@@ -84,6 +88,7 @@ returns c = record {
     no-speeds = (refl, refl);
     mark = (refl, refl, refl);
     mark-kept = (refl, refl);
+    speeds-at-end = (refl, refl);
     mark-at-end = refl;
   };
   ledger = record {

@@ -1,4 +1,6 @@
 use mathlib.Core.Path.{refl}
+use mathlib.Core.Logic.{inl, inr}
+use native.Mathlib.Omega.{arith}
 use Rattle.ledger.proofs.tables.trials_hold.Needs as need
 
 pub returns : need.returns
@@ -6,6 +8,11 @@ returns c = record {
   by-energy = record { speeds = refl; answer = refl; measure = refl };
   by-peak = record { speeds = refl; answer = refl; measure = refl };
   at-prices = record { speeds = refl; answer = refl; measure = refl };
+  other-rival = record {
+    each-slot = refl;
+    listed = (inl refl, (inr (inr (inl refl)), (inl refl, (inr (inr (inl refl)), tt))));
+    finishes = (((λ e. omega (arith, e)), tt), (tt, tt));
+  };
   same-peak = refl;
   later-peaks = (refl, refl);
   without-jobs = record { speeds = refl; answer = refl; measure = refl };
