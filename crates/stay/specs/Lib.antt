@@ -1,0 +1,4 @@
+pub mod Jobs
+pub mod Room
+pub mod Image
+pub mod Contents
