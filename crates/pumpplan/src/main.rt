@@ -22,7 +22,7 @@ const ENERGIES: [u32; 16] = [1, 4, 0, 15, 0, 0, 0, 0, 0, 0, 0, 0, 0, 0, 0, 0];
 
 const SPEEDS: [u8; 3] = [0, 1, 3];
 
-// Two units arrive in slot 0 and are due before slot 2, three arrive in slot 1 and are due before slot 4.
+// The first job brings two units in slot 0, to be done within two slots; the second three in slot 1, to be done by the end.
 const WORK: [SlotWork; 4] = [
     SlotWork { due: 0, arrived: 2 },
     SlotWork { due: 2, arrived: 5 },
