@@ -1,6 +1,6 @@
 // One job of a stay.
 
-/// Work to be pumped from its release slot on, and finished before its due slot begins.
+/// One move of ballast: it may be pumped from the release slot on, and nothing of it may be left at the due slot.
 #[derive(Clone, Copy)]
 pub struct Job {
     pub number: u32,

@@ -9,8 +9,7 @@ impl Energy {
     pub fn value(self) -> u64
         ensures { λ r. ⌜ r ≡ self .value ⌝ }
     {
-        let total = self.value;
-        total
+        self.value
     }
 }
 
@@ -49,7 +48,7 @@ pub impl Measure for Energy as EnergyMeasure {
     }
 
     fn not_above(self, other: Energy) -> bool {
-        self.value <= other.value
+        other.value >= self.value
     }
 }
 

@@ -9,8 +9,7 @@ impl Peak {
     pub fn value(self) -> u32
         ensures { λ r. ⌜ r ≡ self .value ⌝ }
     {
-        let largest = self.value;
-        largest
+        self.value
     }
 }
 
@@ -46,7 +45,7 @@ pub impl Measure for Peak as PeakMeasure {
     }
 
     fn not_above(self, other: Peak) -> bool {
-        self.value <= other.value
+        other.value >= self.value
     }
 }
 

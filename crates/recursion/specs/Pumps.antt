@@ -102,12 +102,12 @@ pub record PumpOptimal {M : Type 0} (q : Kind M) (y : Pump) (n k e : ℕ) : Type
   -- if some sequence is in time, there is a least
   pub exists : (ss : List ℕ) → InTimeSequence y n k e ss → (m : M) × LeastIs q y n k e m
 
--- two pumps have the same speeds and, in the n slots from k, the same work and charges
+-- in the n slots from k two pumps have the same work and charges
 abbrev pub SameSlots : Pump → Pump → ℕ → ℕ → Type 0
 SameSlots y z zero k = Unit {0}
 SameSlots y z (suc n) k = (y .arrived k ≡ z .arrived k) × (y .due (suc k) ≡ z .due (suc k)) × ((s : ℕ) → y .charge k s ≡ z .charge k s) × SameSlots y z n (suc k)
 
--- such pumps have the same least and the same plan
+-- two pumps have the same least and the same plan
 pub record SamePlan {M : Type 0} (q : Kind M) (y z : Pump) (n k e : ℕ) : Type 0 where
   pub least : least q (decisions y) n k e ≡ least q (decisions z) n k e
   pub planned : plannedSpeeds q y n k e ≡ plannedSpeeds q z n k e
