@@ -1,4 +1,5 @@
 //! Fixed-column text: lines and numbers read where they stand, numbers written into columns, and the faults of both.
+#![tactic(auto)]
 
 pub mod faults;
 pub mod fields;

@@ -1,4 +1,5 @@
 //! Planning: speeds that are in time, least by a measure, and lowest where measures are level.
+#![tactic(auto)]
 mod laws;
 mod planning;
 mod rows;
