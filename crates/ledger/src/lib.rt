@@ -1,5 +1,6 @@
 //! What a stay is compared with: the ledger, and what is promised of it after every list of calls.
 #![tactic(auto)]
+
 mod job;
 mod laws;
 mod refusal;

@@ -1,5 +1,6 @@
 //! Measures: what a list of charges comes to, and when one is not above another.
 #![tactic(auto)]
+
 ghost use Rattle.std.specs.Prelude.{◌≡◌, ℕ, min};
 ghost use Rattle.tariff.specs.Charges.{largest_charge};
 ghost use Rattle.measure.specs.Kinds.{Kind, Laws};

@@ -1,5 +1,6 @@
 //! Planning: speeds that are in time, least by a measure, and lowest where measures are level.
 #![tactic(auto)]
+
 mod laws;
 mod planning;
 mod rows;

@@ -1,5 +1,6 @@
 //! A stay: its speed list, its job table, its plan, and the calls on it, which are not public yet.
 #![tactic(auto)]
+
 mod booking;
 mod histories;
 mod job_change;

@@ -1,5 +1,6 @@
 //! Tariffs: what each slot costs at each speed.
 #![tactic(auto)]
+
 ghost use Rattle.std.specs.Prelude.{◌≡◌, ℕ, ◌≤◌};
 ghost use Rattle.tariff.specs.Charges.{last_slot, top_speed, largest_charge, as_read};
 

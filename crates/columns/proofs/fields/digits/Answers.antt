@@ -14,11 +14,11 @@ returns-then-byte-lt48 c =
     ]))
     ∙ c.loop-byte.invariant.0
 
-pub overflow-mul-n : goal.overflow-mul-n
-overflow-mul-n c = omega (arith, power_small c.loop-byte.n c.loop-byte.byte-index 8 c.loop-byte.invariant.1 (omega arith))
+pub overflow_mul-n : goal.overflow_mul-n
+overflow_mul-n c = omega (arith, power_small c.loop-byte.n c.loop-byte.byte-index 8 c.loop-byte.invariant.1 (omega arith))
 
-pub overflow-add-n : goal.overflow-add-n
-overflow-add-n c = omega (arith, power_small c.loop-byte.n c.loop-byte.byte-index 8 c.loop-byte.invariant.1 (omega arith))
+pub overflow_add-n : goal.overflow_add-n
+overflow_add-n c = omega (arith, power_small c.loop-byte.n c.loop-byte.byte-index 8 c.loop-byte.invariant.1 (omega arith))
 
 pub loop-byte-preserved : goal.loop-byte-preserved
 loop-byte-preserved c = (

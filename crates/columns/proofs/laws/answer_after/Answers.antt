@@ -50,16 +50,16 @@ loop-init c =
 
 pub loop-preserved : goal.loop-preserved
 loop-preserved c =
-    let told = c.next-line.ensures in
-    let more = asked_more (lines c.args.file.now) c.loop.reader c.next-line.new.self c.loop.counter c.loop.invariant.1 c.loop.invariant.2
-    c.next-line.result (λ l. l.bytes.now ≡ get_or (lines (file_of c.loop.reader)) (lines_given c.loop.reader) []) told.left told.numbered in
+    let told = c.next_line.ensures in
+    let more = asked_more (lines c.args.file.now) c.loop.reader c.next_line.new.self c.loop.counter c.loop.invariant.1 c.loop.invariant.2
+    c.next_line.result (λ l. l.bytes.now ≡ get_or (lines (file_of c.loop.reader)) (lines_given c.loop.reader) []) told.left told.numbered in
     (told.file ∙ c.loop.invariant.0, more.0, more.1)
 
 pub returns : goal.returns
 returns c =
-    let told = c.next-line-2.ensures in
+    let told = c.next_line-2.ensures in
     let all = lines c.args.file.now in
     let n : c.loop.counter ≡ c.args.asked = omega arith in
-    let P : ℕ → Type 0 = λ k. MatchOption c.next-line-2.result (length all ≤ k) (λ l. (k < length all) × (l.number ≡ k + 1) × (l.bytes.now ≡ get_or all k [])) in
-    subst P n (asked_last all c.loop.reader c.next-line-2.new.self c.loop.counter c.loop.invariant.1 c.loop.invariant.2
-    c.next-line-2.result (λ l. l.bytes.now ≡ get_or (lines (file_of c.loop.reader)) (lines_given c.loop.reader) []) told.left told.numbered)
+    let P : ℕ → Type 0 = λ k. MatchOption c.next_line-2.result (length all ≤ k) (λ l. (k < length all) × (l.number ≡ k + 1) × (l.bytes.now ≡ get_or all k [])) in
+    subst P n (asked_last all c.loop.reader c.next_line-2.new.self c.loop.counter c.loop.invariant.1 c.loop.invariant.2
+    c.next_line-2.result (λ l. l.bytes.now ≡ get_or (lines (file_of c.loop.reader)) (lines_given c.loop.reader) []) told.left told.numbered)

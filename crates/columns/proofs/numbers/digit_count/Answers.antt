@@ -5,8 +5,8 @@ use Rattle.columns.proofs.numbers.digit_count.Goals as goal
 pub loop-rest-init : goal.loop-rest-init
 loop-rest-init c = (omega (arith, length_last c.args.value (omega arith)), omega arith)
 
-pub overflow-add-count : goal.overflow-add-count
-overflow-add-count c = omega (arith, decimal_short c.args.value (omega arith), c.loop-rest.invariant.0)
+pub overflow_add-count : goal.overflow_add-count
+overflow_add-count c = omega (arith, decimal_short c.args.value (omega arith), c.loop-rest.invariant.0)
 
 pub loop-rest-preserved : goal.loop-rest-preserved
 loop-rest-preserved c = (

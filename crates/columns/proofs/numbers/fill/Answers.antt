@@ -6,8 +6,8 @@ use Rattle.columns.proofs.NumberFacts.{column_of, fill_first, fill_more, fill_al
 use Rattle.columns.proofs.numbers.fill.Goals as goal
 use Rattle.columns.proofs.numbers.fill.Goals.{then-rest-eq0, else-rest-eq0}
 
-pub overflow-sub-k : goal.overflow-sub-k
-overflow-sub-k c = omega (arith, decimal_nonempty c.args.value (omega arith))
+pub overflow_sub-k : goal.overflow_sub-k
+overflow_sub-k c = omega (arith, decimal_nonempty c.args.value (omega arith))
 
 pub bounds-part-k : goal.bounds-part-k
 bounds-part-k c = omega (arith, decimal_nonempty c.args.value (omega arith))

@@ -7,4 +7,4 @@ use Rattle.recursion.proofs.planning.fill.Given as goal
 abbrev pub invariant-loop-i : goal.invariant-loop-i
 invariant-loop-i g l =
     Filled g.M.Measure.kind (pump_of l.speeds l.first l.work (g.T.Tariff.charge l.tariff)) l.top l.first l.work l.width
-    (cond l.in-odd l.odd l.even) l.bytes l.low l.i
+    (cond l.in_odd l.odd l.even) l.bytes l.low l.i

@@ -13,8 +13,8 @@ loop-i-preserved g c =
     let k = c.args.slot in
     let s = get_or c.args.speeds.now i 0 in
     let charge = g.T.Tariff.charge c.args.tariff.now in (
-      length-set c.loop-i.charges i c.charge-for.result ∙ c.loop-i.invariant.0,
-      one_more c.loop-i.charges i c.charge-for.result 0 (λ j. charge k (get_or c.args.speeds.now j 0)) (omega (arith, c.loop-i.invariant.0, c.requires.0)) c.loop-i.invariant.1 (c.charge-for.ensures ∙ read_inside charge k s c.requires.1.0 (c.requires.1.1 i)),
+      length-set c.loop-i.charges i c.charge_for.result ∙ c.loop-i.invariant.0,
+      one_more c.loop-i.charges i c.charge_for.result 0 (λ j. charge k (get_or c.args.speeds.now j 0)) (omega (arith, c.loop-i.invariant.0, c.requires.0)) c.loop-i.invariant.1 (c.charge_for.ensures ∙ read_inside charge k s c.requires.1.0 (c.requires.1.1 i)),
     )
 
 pub returns : goal.returns

@@ -18,12 +18,12 @@ loop-done-preserved g c =
     let m = c.args.measure in
     let f : ℕ → Best g.row.M.Denot = λ e. best c.args.speed c.args.measure in
     let L : List ℕ → List g.row.M.Denot → Type 0 = λ p r. Lowered q f c.args.from (i + 1) c.args.picks.now c.args.row.now p r in
-    let turn = lowered_turn q f c.args.from i s m c.index-row-done.result c.takes-place.result c.args.picks.now c.args.row.now c.loop-done.picks c.loop-done.row (omega arith) (omega arith) (omega arith) refl c.index-row-done.is c.takes-place.ensures c.loop-done.invariant in
-    elim c.if-takes-place.branch [
+    let turn = lowered_turn q f c.args.from i s m c.index-row-done.result c.takes_place.result c.args.picks.now c.args.row.now c.loop-done.picks c.loop-done.row (omega arith) (omega arith) (omega arith) refl c.index-row-done.is c.takes_place.ensures c.loop-done.invariant in
+    elim c.if-takes_place.branch [
       | then-takes-place w ↦
-          subst (λ (r : List g.row.M.Denot). L c.if-takes-place.picks r) (sym w.row-is) (subst (λ (p : List ℕ). L p (set c.loop-done.row i m)) (sym w.picks-is) (turn.0 w.if-takes-place.true))
+          subst (λ (r : List g.row.M.Denot). L c.if-takes_place.picks r) (sym w.row-is) (subst (λ (p : List ℕ). L p (set c.loop-done.row i m)) (sym w.picks-is) (turn.0 w.if-takes_place.true))
       | else-takes-place w ↦
-          subst (λ (r : List g.row.M.Denot). L c.if-takes-place.picks r) (sym w.row-is) (subst (λ (p : List ℕ). L p c.loop-done.row) (sym w.picks-is) (turn.1 w.if-takes-place.false))
+          subst (λ (r : List g.row.M.Denot). L c.if-takes_place.picks r) (sym w.row-is) (subst (λ (p : List ℕ). L p c.loop-done.row) (sym w.picks-is) (turn.1 w.if-takes_place.false))
     ]
 
 pub returns : goal.returns

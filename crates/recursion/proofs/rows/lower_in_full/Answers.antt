@@ -9,8 +9,8 @@ use Rattle.recursion.proofs.rows.lower_in_full.Goals.{then-takes-place, else-tak
 pub bounds-next-done : goal.bounds-next-done
 bounds-next-done g c = c.requires.inside.0 c.loop-done.done (omega arith) c.loop-done-test.true
 
-pub offset-bounds-next-done : goal.offset-bounds-next-done
-offset-bounds-next-done g c =
+pub offset_bounds-next-done : goal.offset_bounds-next-done
+offset_bounds-next-done g c =
     let near : c.loop-done.done + c.args.speed < length c.args.next.now = c.requires.inside.0 c.loop-done.done (omega arith) c.loop-done-test.true in
     search rules
 
@@ -27,12 +27,12 @@ loop-done-preserved g c =
     let m = c.join-here.result in
     let f : ℕ → Best g.row.M.Denot = λ e. best c.args.speed (q.join c.args.measure (get_or c.args.next.now (e + c.args.speed) q.nought)) in
     let L : List ℕ → List g.row.M.Denot → Type 0 = λ p r. Lowered q f c.args.from (i + 1) c.args.picks.now c.args.row.now p r in
-    let turn = lowered_turn q f c.args.from i s m c.index-row-done.result c.takes-place.result c.args.picks.now c.args.row.now c.loop-done.picks c.loop-done.row (omega arith) (omega arith) (omega arith) (ap (best s) (sym (c.join-here.ensures ∙ ap (q.join c.args.measure) (get_or_read c.args.next.now (i + s) c.index-next-done.result (c.requires.inside.0 i (omega arith) c.loop-done-test.true) c.index-next-done.is q.nought)))) c.index-row-done.is c.takes-place.ensures c.loop-done.invariant in
-    elim c.if-takes-place.branch [
+    let turn = lowered_turn q f c.args.from i s m c.index-row-done.result c.takes_place.result c.args.picks.now c.args.row.now c.loop-done.picks c.loop-done.row (omega arith) (omega arith) (omega arith) (ap (best s) (sym (c.join-here.ensures ∙ ap (q.join c.args.measure) (get_or_read c.args.next.now (i + s) c.index-next-done.result (c.requires.inside.0 i (omega arith) c.loop-done-test.true) c.index-next-done.is q.nought)))) c.index-row-done.is c.takes_place.ensures c.loop-done.invariant in
+    elim c.if-takes_place.branch [
       | then-takes-place w ↦
-          subst (λ (r : List g.row.M.Denot). L c.if-takes-place.picks r) (sym w.row-is) (subst (λ (p : List ℕ). L p (set c.loop-done.row i m)) (sym w.picks-is) (turn.0 w.if-takes-place.true))
+          subst (λ (r : List g.row.M.Denot). L c.if-takes_place.picks r) (sym w.row-is) (subst (λ (p : List ℕ). L p (set c.loop-done.row i m)) (sym w.picks-is) (turn.0 w.if-takes_place.true))
       | else-takes-place w ↦
-          subst (λ (r : List g.row.M.Denot). L c.if-takes-place.picks r) (sym w.row-is) (subst (λ (p : List ℕ). L p c.loop-done.row) (sym w.picks-is) (turn.1 w.if-takes-place.false))
+          subst (λ (r : List g.row.M.Denot). L c.if-takes_place.picks r) (sym w.row-is) (subst (λ (p : List ℕ). L p c.loop-done.row) (sym w.picks-is) (turn.1 w.if-takes_place.false))
     ]
 
 pub returns : goal.returns

@@ -6,8 +6,8 @@ use Rattle.recursion.proofs.windows.reach_at_top.Goals as goal
 pub loop-i-init : goal.loop-i-init
 loop-i-init c = reaching_first c.args.top c.args.work.now
 
-pub overflow-add-reach : goal.overflow-add-reach
-overflow-add-reach c = omega (arith, c.loop-i.invariant.small)
+pub overflow_add-reach : goal.overflow_add-reach
+overflow_add-reach c = omega (arith, c.loop-i.invariant.small)
 
 pub returns-then-done-slot : goal.returns-then-done-slot
 returns-then-done-slot c =

@@ -8,8 +8,8 @@ loop-k-preserved c =
     let k = c.loop-k.k in
     let out = c.loop-k.work in
     let inv = c.loop-k.invariant in (
-      length-set out (k - c.args.clock) c.slot-work.result ∙ inv.0,
-      ahead_more (queue_of c.args.table) c.args.clock c.args.slots k out c.slot-work.result (omega arith) (omega arith) (omega arith) c.slot-work.ensures inv.1,
+      length-set out (k - c.args.clock) c.slot_work.result ∙ inv.0,
+      ahead_more (queue_of c.args.table) c.args.clock c.args.slots k out c.slot_work.result (omega arith) (omega arith) (omega arith) c.slot_work.ensures inv.1,
     )
 
 pub returns : goal.returns

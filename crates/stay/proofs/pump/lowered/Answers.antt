@@ -11,12 +11,12 @@ loop-i-preserved c =
     let s = c.args.speed in
     let q = queue_of c.args.table in
     let inv = c.loop-i.invariant in
-    let x = c.job-mut.result.now in
-    let by = c.share-of-by.result in
+    let x = c.job_mut.result.now in
+    let by = c.share_of-by.result in
     let i = c.loop-i.i in (
       length-set t.jobs i (lower by x) ∙ inv.0,
       inv.1,
-      lowered_place k s (pumped k s q) (units_pumped k s q) t.jobs t.count i c.loop-i.rest x by (omega arith) (omega arith) (c.job-mut.ensures.value blank) c.share-of-by.ensures inv.2,
+      lowered_place k s (pumped k s q) (units_pumped k s q) t.jobs t.count i c.loop-i.rest x by (omega arith) (omega arith) (c.job_mut.ensures.value blank) c.share_of-by.ensures inv.2,
     )
 
 pub returns : goal.returns

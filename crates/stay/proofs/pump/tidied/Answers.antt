@@ -17,19 +17,19 @@ loop-i-preserved c =
     let at = get_or-take t.count t.jobs i blank (omega arith) in
     let q = queue_of t in
     let more = unfinished (drop (i + 1) q) in
-    let now = c.if-not-is-finished.jobs in
-    elim c.if-not-is-finished.branch [
-      | goal.then-not-is-finished w ↦
+    let now = c.if-not-is_finished.jobs in
+    elim c.if-not-is_finished.branch [
+      | goal.then-not-is_finished w ↦
           let is : now ≡ set js m (get_or q i blank) = w.jobs-is ∙ ap (set js m) (sym at) in
-          let some : eqb (get_or q i blank).left 0 ≡ false = ap (λ (j : Job). eqb j.left 0) at ∙ sym c.is-finished.ensures ∙ w.if-not-is-finished.true in (
+          let some : eqb (get_or q i blank).left 0 ≡ false = ap (λ (j : Job). eqb j.left 0) at ∙ sym c.is_finished.ensures ∙ w.if-not-is_finished.true in (
             ap length is ∙ length-set js m (get_or q i blank) ∙ inv.0,
             omega (arith, w.count-is),
             ap (λ (v : ℕ). take v now ++ more) w.count-is ∙ ap (λ (v : List Job). take (m + 1) v ++ more) is ∙ kept_on js q m i (omega arith) (omega arith) some ∙ inv.2,
           )
-      | goal.else-not-is-finished w ↦ (
+      | goal.else-not-is_finished w ↦ (
         ap length w.jobs-is ∙ inv.0,
         omega (arith, w.count-is),
-        ap (λ (v : ℕ). take v now ++ more) w.count-is ∙ ap (λ (v : List Job). take m v ++ more) w.jobs-is ∙ left_out js q m i (omega arith) (ap (λ (j : Job). eqb j.left 0) at ∙ sym c.is-finished.ensures ∙ w.if-not-is-finished.false) ∙ inv.2,
+        ap (λ (v : ℕ). take v now ++ more) w.count-is ∙ ap (λ (v : List Job). take m v ++ more) w.jobs-is ∙ left_out js q m i (omega arith) (ap (λ (j : Job). eqb j.left 0) at ∙ sym c.is_finished.ensures ∙ w.if-not-is_finished.false) ∙ inv.2,
       )
     ]
 

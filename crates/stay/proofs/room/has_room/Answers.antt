@@ -11,8 +11,8 @@ returns c =
     let q = queue_of c.args.table in
     let slots = c.args.slots in
     let clock = c.args.clock in
-    let told = c.keeps-time.ensures speeds in
+    let told = c.keeps_time.ensures speeds in
     record {
-      exact = room_by_top slots clock c.top.result speeds q c.keeps-time.result list.lawful c.top.ensures told;
+      exact = room_by_top slots clock c.top.result speeds q c.keeps_time.result list.lawful c.top.ensures told;
       told = told ∙ ap (λ (s : ℕ). keeps_time (pump_for speeds q no_charge) clock 0 (replicate (slots - clock) s)) c.top.ensures;
     }

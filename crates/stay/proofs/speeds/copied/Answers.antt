@@ -3,8 +3,8 @@ use Rattle.recursion.proofs.Rising.{lawful_gives, each_low}
 use Rattle.stay.proofs.Places.{next_place}
 use Rattle.stay.proofs.speeds.copied.Goals as goal
 
-pub overflow-cast-speeds : goal.overflow-cast-speeds
-overflow-cast-speeds c =
+pub overflow_cast-speeds : goal.overflow_cast-speeds
+overflow_cast-speeds c =
     let ss = c.args.list.now in
     let low : get_or ss c.loop-i.i 0 ≤ 15 = each_low ss _ (lawful_gives ss c.requires) c.loop-i.i in
     search rules

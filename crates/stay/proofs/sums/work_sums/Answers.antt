@@ -13,14 +13,14 @@ loop-i-preserved c =
     let k = c.args.slot in
     let x = get_or t.jobs i blank in
     let n : length t.jobs ≡ 64 = search rules in
-    let is = c.job-sums-more.ensures.sums in
-    let small = c.job-sums-more.ensures.within in
+    let is = c.job_sums-more.ensures.sums in
+    let small = c.job_sums-more.ensures.within in
     let rest = drop (i + 1) (queue_of t) in
     let at = drop_at t.jobs t.count i blank (omega arith) (omega arith) in
     let inv = c.loop-i.invariant in
-    let d = sum_more c.loop-i.due (cond (leb x.due k) x.left 0) c.job-sums-more.result.0 (owed rest k) (owed (queue_of t) k) i (ap (λ (p : ℕ × ℕ). p.0) is) small.0
+    let d = sum_more c.loop-i.due (cond (leb x.due k) x.left 0) c.job_sums-more.result.0 (owed rest k) (owed (queue_of t) k) i (ap (λ (p : ℕ × ℕ). p.0) is) small.0
     (ap (λ (q : List Job). c.loop-i.due + owed q k) (sym at) ∙ inv.0) inv.1 in
-    let a = sum_more c.loop-i.arrived (cond (leb x.release k) x.left 0) c.job-sums-more.result.1 (arrived rest k) (arrived (queue_of t) k) i (ap (λ (p : ℕ × ℕ). p.1) is) small.1
+    let a = sum_more c.loop-i.arrived (cond (leb x.release k) x.left 0) c.job_sums-more.result.1 (arrived rest k) (arrived (queue_of t) k) i (ap (λ (p : ℕ × ℕ). p.1) is) small.1
     (ap (λ (q : List Job). c.loop-i.arrived + arrived q k) (sym at) ∙ inv.2) inv.3 in
     (d.0, d.1, a.0, a.1)
 

@@ -5,29 +5,29 @@ use Rattle.columns.proofs.LineFacts.{behind_first, first_within, lines_more, rea
 use Rattle.columns.proofs.lines.Reader.next_line.Goals as goal
 use Rattle.columns.proofs.lines.Reader.next_line.Goals.{then-n-rest, else-n-rest, Joined-n-rest, at·returns}
 
-pub returns-then-is-done : goal.returns-then-is-done
-returns-then-is-done c =
-    let none = leb-true _ _ (sym c.is-done.ensures ∙ c.if-is-done.true) in
+pub returns-then-is_done : goal.returns-then-is_done
+returns-then-is_done c =
+    let none = leb-true _ _ (sym c.is_done.ensures ∙ c.if-is_done.true) in
     record { file = refl; left = ap lines (drop_all _ _ none); numbered = refl }
 
-pub slice-bounds-line-end : goal.slice-bounds-line-end
-slice-bounds-line-end c = search (rules, first_within, take_rest)
+pub slice_bounds-line-end : goal.slice_bounds-line-end
+slice_bounds-line-end c = search (rules, first_within, take_rest)
 
 -- a byte is left
 some : (c : Joined-n-rest) → c.args.self.now.place < length c.args.self.now.bytes.now
-some c = leb-false _ _ (sym c.is-done.ensures ∙ c.if-is-done.false)
+some c = leb-false _ _ (sym c.is_done.ensures ∙ c.if-is_done.false)
 
 -- the new place is behind the line
 moved : (c : Joined-n-rest) → drop c.if-n-rest.self c.args.self.now.bytes.now ≡ behind_first (drop c.args.self.now.place c.args.self.now.bytes.now)
 moved c =
     let bytes = c.args.self.now.bytes.now in
     let from = c.args.self.now.place in
-    let n = c.line-length-n.result in
+    let n = c.line_length-n.result in
     elim c.if-n-rest.branch [
-      | then-n-rest w ↦ ap (λ (k : ℕ). drop k bytes) w.self-is ∙ read_rest bytes from n c.line-length-n.ensures
+      | then-n-rest w ↦ ap (λ (k : ℕ). drop k bytes) w.self-is ∙ read_rest bytes from n c.line_length-n.ensures
       | else-n-rest w ↦
           ap (λ (k : ℕ). drop k bytes) w.self-is
-          ∙ read_all bytes from n c.line-length-n.ensures
+          ∙ read_all bytes from n c.line_length-n.ensures
           (omega (arith, w.if-n-rest.false, ap length (take_rest bytes from), length-drop from bytes))
     ]
 
@@ -36,17 +36,17 @@ given_one : (c : Joined-n-rest) →
     let bytes = c.args.self.now.bytes.now in
     let from = c.args.self.now.place in
     let given = c.args.self.now.given in
-    let line = take (c.line-length-n.result - 0) (rest bytes from) in
+    let line = take (c.line_length-n.result - 0) (rest bytes from) in
     let to = c.if-n-rest.self in
     (lines (drop from bytes) ≡ line ∷ lines (drop to bytes)) × (lines (drop to bytes) ≡ drop (given + 1) (lines bytes)) × (line ≡ get_or (lines bytes) given [])
 given_one c =
     let bytes = c.args.self.now.bytes.now in
     let from = c.args.self.now.place in
     lines_more bytes _ from c.if-n-rest.self c.args.self.now.given (some c) c.args.self.now.ordered
-    (read_line bytes from c.line-length-n.result c.line-length-n.ensures) (moved c)
+    (read_line bytes from c.line_length-n.result c.line_length-n.ensures) (moved c)
 
-pub invariant-of-self : goal.invariant-of-self
-invariant-of-self c =
+pub invariant_of-self : goal.invariant_of-self
+invariant_of-self c =
     let bytes = c.args.self.now.bytes.now in
     let from = c.args.self.now.place in (
       elim c.if-n-rest.branch [

@@ -25,14 +25,14 @@ returns g c =
     let t = g.T.Tariff.charge c.args.tariff.now in
     let laws = g.M.Measure.laws in
     let r = c.plan.result in
-    let ws = told_work c.slots-left-left.result me.slots me.clock c.work-ahead-work.result (work_ahead l.queue l.clock (slots_left l)) c.slots-left-left.ensures c.work-ahead-work.ensures in
+    let ws = told_work c.slots_left-left.result me.slots me.clock c.work_ahead-work.result (work_ahead l.queue l.clock (slots_left l)) c.slots_left-left.ensures c.work_ahead-work.ensures in
     let n : length c.args.speeds.now ≡ 96 = search rules in
     record {
-      answer = c.or-short.ensures ∙ ap or_short c.plan.ensures.answer
+      answer = c.or_short.ensures ∙ ap or_short c.plan.ensures.answer
           ∙ stay_answer laws l t w (length c.args.bytes.now) (length c.args.measures.now) g.M.Measure.mark _ _ _ c.listed.ensures ws (search rules);
-      speeds = subst (λ v. Placed v me.clock me.slots (plan_for l t (order_of laws)) c.args.speeds.now (put_mid me.clock (me.slots - me.clock) c.args.speeds.now c.plan.new.chosen)) (sym c.or-short.ensures)
+      speeds = subst (λ v. Placed v me.clock me.slots (plan_for l t (order_of laws)) c.args.speeds.now (put_mid me.clock (me.slots - me.clock) c.args.speeds.now c.plan.new.chosen)) (sym c.or_short.ensures)
           (placed r me.clock me.slots c.args.speeds.now c.plan.new.chosen (plan_for l t (order_of laws)) (omega arith) (search rules)
           (c.plan.ensures.chosen ∙ ap (λ (v : List ℕ). places_after r v (mid_of me.clock (me.slots - me.clock) c.args.speeds.now)) (planned_ahead laws l t w _ _ c.listed.ensures ws)));
-      bytes = subst (λ v. Lent v c.args.bytes.now c.plan.new.bytes) (sym c.or-short.ensures) (lent_kept r c.args.bytes.now c.plan.new.bytes (search rules) c.plan.ensures.bytes);
-      measures = subst (λ v. Lent v c.args.measures.now c.plan.new.measures) (sym c.or-short.ensures) (lent_kept r c.args.measures.now c.plan.new.measures (search rules) c.plan.ensures.measures);
+      bytes = subst (λ v. Lent v c.args.bytes.now c.plan.new.bytes) (sym c.or_short.ensures) (lent_kept r c.args.bytes.now c.plan.new.bytes (search rules) c.plan.ensures.bytes);
+      measures = subst (λ v. Lent v c.args.measures.now c.plan.new.measures) (sym c.or_short.ensures) (lent_kept r c.args.measures.now c.plan.new.measures (search rules) c.plan.ensures.measures);
     }

@@ -16,35 +16,35 @@ use Rattle.stay.proofs.stay.Stay.book.Goals.{Else-not-has-room-for}
 abbrev asked : ℕ → ℕ → ℕ → ℕ → Job
 asked number release due work = record { number = number; release = release; due = due; left = work }
 
-pub returns-in-err-job : goal.returns-in-err-job
-returns-in-err-job c =
+pub returns-in_err-job : goal.returns-in_err-job
+returns-in_err-job c =
     let me = c.args.self.now in
     let j = asked c.args.number c.args.release c.args.due c.args.work in
-    let r = c.in-err-job.field-0.0 in
-    let p = err_from_is_err_and c.from-residual.result c.from-residual.ensures.1 in
-    let no = job_refused (contents me) j r c.in-err-job.ensures in
+    let r = c.in_err-job.field-0.0 in
+    let p = err_from_is_err_and c.from_residual.result c.from_residual.ensures.1 in
+    let no = job_refused (contents me) j r c.in_err-job.ensures in
     rw (p.1, p.2) record { follows = refused_follows (contents me) (booking j) r me.sound no; exact = exact_verdict (contents me) j (Some r) me.sound no; kept = refl }
 
-pub returns-in-err-admits : goal.returns-in-err-admits
-returns-in-err-admits c =
+pub returns-in_err-admits : goal.returns-in_err-admits
+returns-in_err-admits c =
     let me = c.args.self.now in
     let j = asked c.args.number c.args.release c.args.due c.args.work in
-    let r = c.in-err-admits.field-0.0 in
-    let p = err_from_is_err_and c.from-residual-in-err-admits.result c.from-residual-in-err-admits.ensures.1 in
-    let no = queue_refused (contents me) j c.in-ok-job.job r c.in-ok-job.ensures c.in-err-admits.ensures.told in
+    let r = c.in_err-admits.field-0.0 in
+    let p = err_from_is_err_and c.from_residual-in_err-admits.result c.from_residual-in_err-admits.ensures.1 in
+    let no = queue_refused (contents me) j c.in_ok-job.job r c.in_ok-job.ensures c.in_err-admits.ensures.told in
     rw (p.1, p.2) record { follows = refused_follows (contents me) (booking j) r me.sound no; exact = exact_verdict (contents me) j (Some r) me.sound no; kept = refl }
 
 pub entered-table-requires : goal.entered-table-requires
-entered-table-requires c = c.in-ok-admits.ensures.room
+entered-table-requires c = c.in_ok-admits.ensures.room
 
-pub has-room-for-requires : goal.has-room-for-requires
-has-room-for-requires c = omega (arith, c.in-ok-admits.ensures.room)
+pub has_room_for-requires : goal.has_room_for-requires
+has_room_for-requires c = omega (arith, c.in_ok-admits.ensures.room)
 
-pub returns-then-not-has-room-for : goal.returns-then-not-has-room-for
-returns-then-not-has-room-for c =
+pub returns-then-not-has_room_for : goal.returns-then-not-has_room_for
+returns-then-not-has_room_for c =
     let me = c.args.self.now in
     let j = asked c.args.number c.args.release c.args.due c.args.work in
-    let no = booking_rules_lem (contents me) j c.in-ok-job.job (queue_of c.entered-table.result) false c.in-ok-job.ensures c.in-ok-admits.ensures.told c.entered-table.ensures.queue c.if-not-has-room-for.ensures in
+    let no = booking_rules_lem (contents me) j c.in_ok-job.job (queue_of c.entered-table.result) false c.in_ok-job.ensures c.in_ok-admits.ensures.told c.entered-table.ensures.queue c.if-not-has_room_for.ensures in
     record { follows = refused_follows (contents me) (booking j) NotInTime me.sound no; exact = exact_verdict (contents me) j (Some NotInTime) me.sound no; kept = refl }
 
 -- the call on the ledger
@@ -55,20 +55,20 @@ taken : (c : Else-not-has-room-for) →
 taken c =
     let l = contents c.args.self.now in
     let j = asked c.args.number c.args.release c.args.due c.args.work in
-    let i = c.in-ok-job.job in
+    let i = c.in_ok-job.job in
     let q = queue_of c.entered-table.result in
-    let told = c.in-ok-job.ensures in
+    let told = c.in_ok-job.ensures in
     let is = c.entered-table.ensures.queue in
-    (booking_rules_lem l j i q true told c.in-ok-admits.ensures.told is c.if-not-has-room-for.ensures, booking_step l j i q told is)
+    (booking_rules_lem l j i q true told c.in_ok-admits.ensures.told is c.if-not-has_room_for.ensures, booking_step l j i q told is)
 
-pub with-jobs-requires : goal.with-jobs-requires
-with-jobs-requires c =
+pub with_jobs-requires : goal.with_jobs-requires
+with_jobs-requires c =
     let me = c.args.self.now in
     let l = contents me in
     let j = asked c.args.number c.args.release c.args.due c.args.work in
-    let t = taken (goal.at.with-jobs-requires c).Else-not-has-room-for in
+    let t = taken (goal.at.with_jobs-requires c).Else-not-has-room-for in
     record {
-      few = omega (arith, c.in-ok-admits.ensures.room);
+      few = omega (arith, c.in_ok-admits.ensures.room);
       sound = accepted_sound l (with_queue (queue_of c.entered-table.result) l) (booking j) me.sound t.0 t.1;
     }
 
@@ -80,12 +80,12 @@ returns c =
     let t = taken (goal.at.returns c).Else-not-has-room-for in
     let table = c.entered-table.result in
     let n : length table.jobs ≡ 64 = search rules in
-    let room = c.in-ok-admits.ensures.room in
+    let room = c.in_ok-admits.ensures.room in
     let all = length-take-le table.count table.jobs (omega arith) in
-    let more = ap length c.entered-table.ensures.queue ∙ length_enter c.in-ok-job.job l.queue in
+    let more = ap length c.entered-table.ensures.queue ∙ length_enter c.in_ok-job.job l.queue in
     let count : table.count ≡ length l.queue + 1 = omega arith in
     record {
-      follows = accepted_follows l (contents c.with-jobs.result) (booking j) (booked table.count) me.sound t.0 (c.with-jobs.ensures ∙ t.1) (ap booked count);
+      follows = accepted_follows l (contents c.with_jobs.result) (booking j) (booked table.count) me.sound t.0 (c.with_jobs.ensures ∙ t.1) (ap booked count);
       exact = exact_verdict l j None me.sound t.0;
       kept = tt;
     }

@@ -9,23 +9,23 @@ use Rattle.stay.proofs.Steps.{refused_follows, accepted_sound, accepted_follows}
 use Rattle.stay.proofs.stay.Stay.open.Goals as goal
 use Rattle.stay.proofs.stay.Stay.open.Goals.{In-Some}
 
-pub returns-then-is-no-slot-count : goal.returns-then-is-no-slot-count
-returns-then-is-no-slot-count c =
+pub returns-then-is_no_slot_count : goal.returns-then-is_no_slot_count
+returns-then-is_no_slot_count c =
     let me = c.args.self.now in
     let n = c.args.slots in
     let ss = c.args.speeds.now in
     record {
-      follows = refused_follows (contents me) (opening n ss) SlotCount me.sound (opening_rules (contents me) n ss true (lawful_speeds ss) c.if-is-no-slot-count.ensures refl);
+      follows = refused_follows (contents me) (opening n ss) SlotCount me.sound (opening_rules (contents me) n ss true (lawful_speeds ss) c.if-is_no_slot_count.ensures refl);
       kept = refl;
     }
 
-pub returns-in-default : goal.returns-in-default
-returns-in-default c =
+pub returns-in_default : goal.returns-in_default
+returns-in_default c =
     let me = c.args.self.now in
     let n = c.args.slots in
     let ss = c.args.speeds.now in
     record {
-      follows = refused_follows (contents me) (opening n ss) SpeedList me.sound (opening_rules (contents me) n ss false false c.if-is-no-slot-count.ensures c.in-default.ensures.made);
+      follows = refused_follows (contents me) (opening n ss) SpeedList me.sound (opening_rules (contents me) n ss false false c.if-is_no_slot_count.ensures c.in_default.ensures.made);
       kept = refl;
     }
 
@@ -34,7 +34,7 @@ abbrev anew : ℕ → List ℕ → Ledger
 anew n ss = record { slots = n; speeds = ss; clock = 0; queue = []; standing = no_plan }
 
 allowed : (c : In-Some) → refusal (contents c.args.self.now) (opening c.args.slots c.args.speeds.now) ≡ None
-allowed c = opening_rules (contents c.args.self.now) c.args.slots c.args.speeds.now false true c.if-is-no-slot-count.ensures c.in-Some.ensures.made
+allowed c = opening_rules (contents c.args.self.now) c.args.slots c.args.speeds.now false true c.if-is_no_slot_count.ensures c.in-Some.ensures.made
 
 pub reopened-requires : goal.reopened-requires
 reopened-requires c =

@@ -8,25 +8,25 @@ use Rattle.stay.proofs.Ruling.{told_which, told_none}
 use Rattle.stay.proofs.Steps.{refused_follows}
 use Rattle.stay.proofs.stay.Stay.plan.Goals as goal
 
-pub returns-in-err-measure : goal.returns-in-err-measure
-returns-in-err-measure g c =
+pub returns-in_err-measure : goal.returns-in_err-measure
+returns-in_err-measure g c =
     let me = c.args.self.now in
     let l = contents me in
     let call = planning (g.T.Tariff.charge c.args.tariff.now) (order_of g.M.Measure.laws) g.M.Measure.mark (length c.args.bytes.now) (length c.args.measures.now) in
-    let r = c.in-err-measure.field-0.0 in
-    let p = err_from_is_err_and c.from-residual.result c.from-residual.ensures.1 in
+    let r = c.in_err-measure.field-0.0 in
+    let p = err_from_is_err_and c.from_residual.result c.from_residual.ensures.1 in
     rw (p.1, p.2)
     record {
-      follows = refused_follows l call r me.sound (told_which (refusal l call) r _ c.in-err-measure.ensures.answer);
+      follows = refused_follows l call r me.sound (told_which (refusal l call) r _ c.in_err-measure.ensures.answer);
       measure = tt;
       own = tt;
       kept = refl;
-      bytes = c.in-err-measure.ensures.bytes;
-      measures = c.in-err-measure.ensures.measures;
+      bytes = c.in_err-measure.ensures.bytes;
+      measures = c.in_err-measure.ensures.measures;
     }
 
-pub with-plan-requires : goal.with-plan-requires
-with-plan-requires g c =
+pub with_plan-requires : goal.with_plan-requires
+with_plan-requires g c =
     let me = c.args.self.now in
     let l = contents me in
     let t = g.T.Tariff.charge c.args.tariff.now in
@@ -34,27 +34,27 @@ with-plan-requires g c =
     let mark = g.M.Measure.mark in
     let bytes = length c.args.bytes.now in
     let measures = length c.args.measures.now in
-    let a = told_none (refusal l (planning t (order_of laws) mark bytes measures)) _ _ c.in-ok-measure.ensures.answer in
-    planned_sound laws l t mark bytes measures me.sound a.1 c.mark-told.result (take (me.slots - me.clock) (drop me.clock c.best-speeds.new.speeds)) c.mark-told.ensures c.in-ok-measure.ensures.speeds
+    let a = told_none (refusal l (planning t (order_of laws) mark bytes measures)) _ _ c.in_ok-measure.ensures.answer in
+    planned_sound laws l t mark bytes measures me.sound a.1 c.mark_told.result (take (me.slots - me.clock) (drop me.clock c.best_speeds.new.speeds)) c.mark_told.ensures c.in_ok-measure.ensures.speeds
 
 pub returns : goal.returns
 returns g c =
     let me = c.args.self.now in
     let l = contents me in
-    let n = contents c.with-plan.result in
+    let n = contents c.with_plan.result in
     let t = g.T.Tariff.charge c.args.tariff.now in
     let laws = g.M.Measure.laws in
     let mark = g.M.Measure.mark in
     let bytes = length c.args.bytes.now in
     let measures = length c.args.measures.now in
-    let a = told_none (refusal l (planning t (order_of laws) mark bytes measures)) _ _ c.in-ok-measure.ensures.answer in
-    let ss = take (me.slots - me.clock) (drop me.clock c.best-speeds.new.speeds) in
-    let is = c.in-ok-measure.ensures.speeds in
+    let a = told_none (refusal l (planning t (order_of laws) mark bytes measures)) _ _ c.in_ok-measure.ensures.answer in
+    let ss = take (me.slots - me.clock) (drop me.clock c.best_speeds.new.speeds) in
+    let is = c.in_ok-measure.ensures.speeds in
     record {
-      follows = planned_follows laws l t mark bytes measures me.sound a.1 n c.mark-told.result ss c.with-plan.ensures c.mark-told.ensures is c.slots-left.result c.slots-left.ensures;
+      follows = planned_follows laws l t mark bytes measures me.sound a.1 n c.mark_told.result ss c.with_plan.ensures c.mark_told.ensures is c.slots_left.result c.slots_left.ensures;
       measure = a.0;
-      own = planned_own laws l t mark bytes measures me.sound a.1 n c.mark-told.result ss c.with-plan.ensures c.mark-told.ensures is c.in-ok-measure.measure a.0;
+      own = planned_own laws l t mark bytes measures me.sound a.1 n c.mark_told.result ss c.with_plan.ensures c.mark_told.ensures is c.in_ok-measure.measure a.0;
       kept = tt;
-      bytes = c.in-ok-measure.ensures.bytes;
-      measures = c.in-ok-measure.ensures.measures;
+      bytes = c.in_ok-measure.ensures.bytes;
+      measures = c.in_ok-measure.ensures.measures;
     }

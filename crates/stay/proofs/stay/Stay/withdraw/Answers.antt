@@ -11,11 +11,11 @@ use Rattle.stay.proofs.Striking.{left_at}
 use Rattle.stay.proofs.stay.Stay.withdraw.Goals as goal
 use Rattle.stay.proofs.stay.Stay.withdraw.Goals.{After-struck}
 
-pub returns-in-default : goal.returns-in-default
-returns-in-default c =
+pub returns-in_default : goal.returns-in_default
+returns-in_default c =
     let me = c.args.self.now in
     record {
-      follows = refused_follows (contents me) (withdrawing c.args.number) NoSuchJob me.sound (withdrawing_rule (contents me) c.args.number false c.in-default.ensures.found);
+      follows = refused_follows (contents me) (withdrawing c.args.number) NoSuchJob me.sound (withdrawing_rule (contents me) c.args.number false c.in_default.ensures.found);
       kept = refl;
     }
 
@@ -25,8 +25,8 @@ step c =
     let l = contents c.args.self.now in
     ap (λ (q : List Job). with_queue q l) (c.struck.ensures.strikes c.args.number c.in-Some.ensures.place)
 
-pub with-jobs-requires : goal.with-jobs-requires
-with-jobs-requires c =
+pub with_jobs-requires : goal.with_jobs-requires
+with_jobs-requires c =
     let me = c.args.self.now in
     let l = contents me in
     let n = c.args.number in
@@ -43,7 +43,7 @@ returns c =
     let i = c.in-Some.place in
     let found = c.in-Some.ensures in
     record {
-      follows = accepted_follows l (contents c.with-jobs.result) (withdrawing n) (withdrew (get_or me.table.jobs i blank).left) me.sound (withdrawing_rule l n true found.found)
-          (c.with-jobs.ensures ∙ step (goal.at.returns c).After-struck) (ap withdrew (left_at n me.table.count i me.table.jobs found.place));
+      follows = accepted_follows l (contents c.with_jobs.result) (withdrawing n) (withdrew (get_or me.table.jobs i blank).left) me.sound (withdrawing_rule l n true found.found)
+          (c.with_jobs.ensures ∙ step (goal.at.returns c).After-struck) (ap withdrew (left_at n me.table.count i me.table.jobs found.place));
       kept = tt;
     }
