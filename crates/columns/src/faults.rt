@@ -95,7 +95,7 @@ impl Numbered for LineFault {
 }
 
 impl<C: Numbered> Numbered for FileFault<C> {
-    ghost numbered = { number_of_file numbered };
+    ghost numbered = { number_of_file C.numbered };
 
     fn number(&self) -> u32 {
         match self {

@@ -4,7 +4,7 @@ use Rattle.recursion.specs.Staged.{Best, best}
 use Rattle.recursion.specs.Rows.{Lowered}
 use Rattle.recursion.proofs.Choosing.{lowered_none, lowered_turn}
 use Rattle.recursion.proofs.rows.lower_in_full.Goals as goal
-use Rattle.recursion.proofs.rows.lower_in_full.Goals.{then-takes-place, else-takes-place}
+use Rattle.recursion.proofs.rows.lower_in_full.Goals.{then-takes_place, else-takes_place}
 
 pub bounds-next-done : goal.bounds-next-done
 bounds-next-done g c = c.requires.inside.0 c.loop-done.done (omega arith) c.loop-done-test.true
@@ -29,9 +29,9 @@ loop-done-preserved g c =
     let L : List ℕ → List g.row.M.Denot → Type 0 = λ p r. Lowered q f c.args.from (i + 1) c.args.picks.now c.args.row.now p r in
     let turn = lowered_turn q f c.args.from i s m c.index-row-done.result c.takes_place.result c.args.picks.now c.args.row.now c.loop-done.picks c.loop-done.row (omega arith) (omega arith) (omega arith) (ap (best s) (sym (c.join-here.ensures ∙ ap (q.join c.args.measure) (get_or_read c.args.next.now (i + s) c.index-next-done.result (c.requires.inside.0 i (omega arith) c.loop-done-test.true) c.index-next-done.is q.nought)))) c.index-row-done.is c.takes_place.ensures c.loop-done.invariant in
     elim c.if-takes_place.branch [
-      | then-takes-place w ↦
+      | then-takes_place w ↦
           subst (λ (r : List g.row.M.Denot). L c.if-takes_place.picks r) (sym w.row-is) (subst (λ (p : List ℕ). L p (set c.loop-done.row i m)) (sym w.picks-is) (turn.0 w.if-takes_place.true))
-      | else-takes-place w ↦
+      | else-takes_place w ↦
           subst (λ (r : List g.row.M.Denot). L c.if-takes_place.picks r) (sym w.row-is) (subst (λ (p : List ℕ). L p c.loop-done.row) (sym w.picks-is) (turn.1 w.if-takes_place.false))
     ]
 

@@ -3,7 +3,7 @@ use Rattle.std.proofs.lemmas.List.{drop_all, length-drop, take_rest}
 use Rattle.columns.specs.Lines.{lines}
 use Rattle.columns.proofs.LineFacts.{behind_first, first_within, lines_more, read_line, read_rest, read_all, rest}
 use Rattle.columns.proofs.lines.Reader.next_line.Goals as goal
-use Rattle.columns.proofs.lines.Reader.next_line.Goals.{then-n-rest, else-n-rest, Joined-n-rest, at·returns}
+use Rattle.columns.proofs.lines.Reader.next_line.Goals.{then-n-rest, else-n-rest, Joined-n-rest, at-returns}
 
 pub returns-then-is_done : goal.returns-then-is_done
 returns-then-is_done c =
@@ -48,21 +48,22 @@ given_one c =
 pub invariant_of-self : goal.invariant_of-self
 invariant_of-self c =
     let bytes = c.args.self.now.bytes.now in
-    let from = c.args.self.now.place in (
-      elim c.if-n-rest.branch [
-        | then-n-rest w ↦ omega (arith, w.self-is, w.if-n-rest.true, ap length (take_rest bytes from), length-drop from bytes)
-        | else-n-rest w ↦ omega (arith, w.self-is)
-      ],
-      (
-        elim c.if-n-rest.branch [
-          | then-n-rest w ↦ omega (arith, w.self-is, c.args.self.now.counted)
-          | else-n-rest w ↦ omega (arith, w.self-is, c.args.self.now.counted, some c)
-        ],
-        ((given_one c).1, tt),
-      ),
-    )
+    let from = c.args.self.now.place in
+    record {
+      inside =
+          elim c.if-n-rest.branch [
+            | then-n-rest w ↦ omega (arith, w.self-is, w.if-n-rest.true, ap length (take_rest bytes from), length-drop from bytes)
+            | else-n-rest w ↦ omega (arith, w.self-is)
+          ];
+      counted =
+          elim c.if-n-rest.branch [
+            | then-n-rest w ↦ omega (arith, w.self-is, c.args.self.now.counted)
+            | else-n-rest w ↦ omega (arith, w.self-is, c.args.self.now.counted, some c)
+          ];
+      ordered = (given_one c).1;
+    }
 
 pub returns : goal.returns
 returns c =
-    let one = given_one (at·returns c).Joined-n-rest in
+    let one = given_one (at-returns c).Joined-n-rest in
     record { file = refl; left = one.0; numbered = (refl, refl, one.2) }

@@ -10,7 +10,7 @@ use Rattle.stay.specs.Jobs.{queue_of}
 use Rattle.stay.proofs.Ruling.{job_refused, queue_refused, booking_step, booking_rules_lem}
 use Rattle.stay.proofs.Steps.{exact_verdict, refused_follows, accepted_sound, accepted_follows}
 use Rattle.stay.proofs.stay.Stay.book.Goals as goal
-use Rattle.stay.proofs.stay.Stay.book.Goals.{Else-not-has-room-for}
+use Rattle.stay.proofs.stay.Stay.book.Goals.{Else-not-has_room_for}
 
 -- the job that is asked for
 abbrev asked : ℕ → ℕ → ℕ → ℕ → Job
@@ -48,7 +48,7 @@ returns-then-not-has_room_for c =
     record { follows = refused_follows (contents me) (booking j) NotInTime me.sound no; exact = exact_verdict (contents me) j (Some NotInTime) me.sound no; kept = refl }
 
 -- the call on the ledger
-taken : (c : Else-not-has-room-for) →
+taken : (c : Else-not-has_room_for) →
     let l = contents c.args.self.now in
     let j = asked c.args.number c.args.release c.args.due c.args.work in
     (refusal l (booking j) ≡ None) × (with_queue (queue_of c.entered-table.result) l ≡ accepted l (booking j))
@@ -66,7 +66,7 @@ with_jobs-requires c =
     let me = c.args.self.now in
     let l = contents me in
     let j = asked c.args.number c.args.release c.args.due c.args.work in
-    let t = taken (goal.at.with_jobs-requires c).Else-not-has-room-for in
+    let t = taken (goal.at.with_jobs-requires c).Else-not-has_room_for in
     record {
       few = omega (arith, c.in_ok-admits.ensures.room);
       sound = accepted_sound l (with_queue (queue_of c.entered-table.result) l) (booking j) me.sound t.0 t.1;
@@ -77,7 +77,7 @@ returns c =
     let me = c.args.self.now in
     let l = contents me in
     let j = asked c.args.number c.args.release c.args.due c.args.work in
-    let t = taken (goal.at.returns c).Else-not-has-room-for in
+    let t = taken (goal.at.returns c).Else-not-has_room_for in
     let table = c.entered-table.result in
     let n : length table.jobs ≡ 64 = search rules in
     let room = c.in_ok-admits.ensures.room in
