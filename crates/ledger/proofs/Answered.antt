@@ -11,7 +11,7 @@ use Rattle.ledger.specs.Answers.{Answer, refused, booked, withdrew, ran, speed_n
 use Rattle.ledger.specs.AnswerLaws.{OnlyQueue, Entered, RunIsLawful, AcceptanceIsLawful, AnswerIsLawful}
 use Rattle.ledger.specs.Sound.{PlanFits, Sound}
 use Rattle.ledger.proofs.Queues.{each_map, before_trans, length_enter}
-use Rattle.ledger.proofs.Slots.{count_falls, first_served, length_pumped, units_arrived, work_falls, work_open_same}
+use Rattle.ledger.proofs.Slots.{count_falls, length_pumped, units_arrived, work_falls, work_open_same}
 use Rattle.ledger.proofs.Booked.{rule_none}
 use Rattle.ledger.proofs.Kept.{may_run}
 
@@ -101,7 +101,6 @@ run_lawful l (plan mark (s ∷ ss)) e lt f h =
       speed = s;
       rest = ss;
       stood = e;
-      first_served = first_served k s q;
       queue = refl;
       gone = gone;
       answers = ap (λ (v : ℕ). ran s v gone) units;

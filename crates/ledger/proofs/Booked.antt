@@ -3,7 +3,7 @@ use Rattle.std.proofs.Common.{◌≡◌, ℕ, ◌+◌, ◌<◌, ◌≤◌, Bool,
 use Rattle.std.proofs.lemmas.Bool.{leb-false, ltb-false, eqb-false, or_parts, not-false, not-true}
 use Rattle.ledger.specs.declared.job.Job.{Job}
 use Rattle.ledger.specs.declared.refusal.Refusal.{Refusal}
-use Rattle.ledger.specs.declared.refusal.Refusal.TheVariants.{JobNumber, JobSlots, JobWork, NumberOpen, QueueFull, Nested, NotInTime}
+use Rattle.ledger.specs.declared.refusal.Refusal.TheVariants.{JobNumber, JobSlots, JobWork, NumberOpen, NoRoom, Nested, NotInTime}
 use Rattle.ledger.specs.Refusals.{refusal_number}
 use Rattle.ledger.specs.Limits.{most_jobs, most_work, largest_number}
 use Rattle.ledger.specs.Queue.{Each, inside, Apart, enter, work}
@@ -46,14 +46,14 @@ passes l j rest m late h =
     let b7 = leb most_jobs (length l.queue) || ltb most_work (work l.queue + j.left) in
     let b8 = nested l.clock j l.queue in
     let r8 = rule Nested b8 rest in
-    let r7 = rule QueueFull b7 r8 in
+    let r7 = rule NoRoom b7 r8 in
     let r6 = rule NumberOpen b6 r7 in
     let r5 = rule JobWork b5 r6 in
     let a3 = rule_past JobNumber (eqb j.number 0 || ltb largest_number j.number) (rule JobSlots b4 r5) m (late JobNumber (omega arith)) h in
     let a4 = rule_past JobSlots b4 r5 m (late JobSlots (omega arith)) a3.1 in
     let a5 = rule_past JobWork b5 r6 m (late JobWork (omega arith)) a4.1 in
     let a6 = rule_past NumberOpen b6 r7 m (late NumberOpen (omega arith)) a5.1 in
-    let a7 = rule_past QueueFull b7 r8 m (late QueueFull (omega arith)) a6.1 in
+    let a7 = rule_past NoRoom b7 r8 m (late NoRoom (omega arith)) a6.1 in
     let a8 = rule_past Nested b8 rest m (late Nested (omega arith)) a7.1 in
     (record { number = a3.0; slots = a4.0; left = a5.0; closed = a6.0; room = a7.0; apart = a8.0 }, a8.1)
 
@@ -64,7 +64,7 @@ rule_off r b rest f = ap (λ (v : Bool). rule r v rest) f
 passed_rest : (l : Ledger) (j : Job) (rest : Option Refusal) → Passed l j → booking_rules l j rest ≡ rest
 passed_rest l j rest p =
     rule_off JobNumber _ _ p.number ∙ rule_off JobSlots _ _ p.slots ∙ rule_off JobWork _ _ p.left
-    ∙ rule_off NumberOpen _ _ p.closed ∙ rule_off QueueFull _ _ p.room ∙ rule_off Nested _ _ p.apart
+    ∙ rule_off NumberOpen _ _ p.closed ∙ rule_off NoRoom _ _ p.room ∙ rule_off Nested _ _ p.apart
 
 pub passed_none : (l : Ledger) (j : Job) → booking_rules l j None ≡ None → Passed l j
 passed_none l j h = (passes l j None None (λ r _. some_none r) h).0

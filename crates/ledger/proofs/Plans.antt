@@ -34,15 +34,15 @@ pub plan_best : (l : Ledger) (t : Charges) (o : Order) (ss : List ℕ) → Seque
     × ((rs : List ℕ) → Sequence l l.queue rs → o.not_above (charges_of l t (plan_for l t o)) (charges_of l t rs) ≡ true)
 plan_best l t o ss r =
     let f = o.not_above in
-    let y = pump_for l.speeds l.queue t in
+    let y = pump_for l.speeds l.queue t.charge in
     let n = slots_left l in
     let k = l.clock in
     let ps = plan_for l t o in
-    let under = λ (us : List ℕ). sequence_under l.speeds no_charge t l.queue n k us in
+    let under = λ (us : List ℕ). sequence_under l.speeds no_charge t.charge l.queue n k us in
     let w = pump_optimal (ranked_order o) y n k 0 in
     let x = w.exists ss (under ss r) in
     let b = w.planned_is_best x.0 x.1 in (
-      sequence_under l.speeds t no_charge l.queue n k ps b.in_time,
+      sequence_under l.speeds t.charge no_charge l.queue n k ps b.in_time,
       λ rs u.
           subst (λ (v : List ℕ). f v (charges_from y k rs) ≡ true) (sym b.measure ∙ lists_measure f (charges_from y k ps))
           (subst (λ (v : List ℕ). f x.0 v ≡ true) (lists_measure f (charges_from y k rs)) (b.none_below rs (under rs u))),

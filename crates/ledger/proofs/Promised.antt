@@ -127,13 +127,13 @@ promised h c = record {
 
 pub measured_plan : {M : Type 0} {q : Kind M} (laws : Laws q) (l : Ledger) (t : Charges) → Sound l → MeasuredPlan q laws l t
 measured_plan {M} {q} laws l t w =
-    let y = pump_for l.speeds l.queue t in
+    let y = pump_for l.speeds l.queue t.charge in
     let n = slots_left l in
     let k = l.clock in
     let same = sym (planned_image laws (decisions y) n k 0) in
     let b = plan_is_best l t (order_of laws) w in
     let best = pump_optimal (ranked laws) y n k 0 in
-    let x = best.exists w.possible.0 (sequence_under l.speeds no_charge t l.queue n k w.possible.0 w.possible.1) in
+    let x = best.exists w.possible.0 (sequence_under l.speeds no_charge t.charge l.queue n k w.possible.0 w.possible.1) in
     let its = sym (best.planned_is_best x.0 x.1).measure ∙ ap (λ v. measure_of q (charges_from y k v)) same in
     record {
       by_the_rule = λ m i e. recursion (ranked laws) (decisions y) m i e;

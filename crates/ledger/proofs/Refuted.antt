@@ -1,20 +1,17 @@
 -- Wrong planners and verdicts fail the promise on a stay of the tables, and a wrong measure its third law.
-use Rattle.std.proofs.Common.{◌≡◌, ℕ, zero, suc, Bool, true, not, ◌&&◌, List, [], ◌∷◌, ◌++◌, length, sym, refl, ap, ◌∙◌, subst, inl, inr, ⊎_elim, arith}
+use Rattle.std.proofs.Common.{◌≡◌, ℕ, zero, suc, Bool, true, not, ◌&&◌, List, [], ◌∷◌, length, sym, refl, ◌∙◌, subst, inl, inr, arith}
 use borrow.Author.Tests.{clash}
 use Rattle.std.proofs.lemmas.Bool.{and_parts, and_from, not-true}
 use Rattle.measure.specs.Orders.{Order}
 use Rattle.recursion.specs.Staged.{In}
 use Rattle.recursion.specs.Pumps.{Listed}
 use Rattle.ledger.specs.Ledger.{Ledger, Charges, Call, running, pump_for, no_charge, keeps_time, plan_for, charges_of, ledger}
-use Rattle.ledger.specs.declared.job.Job.{Job}
 use Rattle.ledger.specs.Promise.{Rival}
-use Rattle.ledger.specs.Queue.{work}
 use Rattle.ledger.specs.Stays.{energies, table, priced_table, job, bare, both}
-use Rattle.ledger.specs.Wrong.{PlansBest, ServesFirst, pumped_from_back, peak_energy, Refuted}
+use Rattle.ledger.specs.Wrong.{PlansBest, peak_energy, Refuted}
 use Rattle.ledger.proofs.Kept.{sound_sorted, ledger_sound}
 use Rattle.ledger.proofs.Plans.{in_time_keeps}
 use Rattle.ledger.proofs.Promised.{promised, rival_sequence}
-use Rattle.ledger.proofs.Slots.{first_served}
 
 -- ## Every sequence
 
@@ -67,27 +64,6 @@ tariff_ignored planner f =
     (dear.none_below (plan_for l priced_table energies) (the_plan both priced_table energies))) in
     clash (sym (not-true (best_of_both ss) (of_all_lem 4 (0 ∷ 1 ∷ 3 ∷ []) (λ us. not (best_of_both us)) refl ss r.each_slot r.listed)) ∙ b)
 
--- ## Ways to pump
-
-abbrev number_first : List Job → ℕ
-number_first [] = 0
-number_first (j ∷ q) = j.number
-
--- jobs 1 and 2, of 2 and 3 units, in slot 0 at speed 3: from the back job 2 is done, and job 1 stands as it was
-from_the_back : ServesFirst pumped_from_back → ⊥
-from_the_back f =
-    let w = f 0 3 (job 1 0 2 2 ∷ []) (job 2 0 4 3 ∷ []) in
-    let falls : work w.of_front ≡ 0 = omega (arith, w.falls) in
-    ⊎_elim
-    (λ (e : w.of_front ≡ []).
-    let is : job 1 0 2 2 ∷ [] ≡ w.of_back = w.is ∙ ap (λ (q : List Job). q ++ w.of_back) e in
-    ⊎_elim
-    (λ (b : w.of_back ≡ []). let n : 1 ≡ 0 = ap number_first (is ∙ b) in omega arith)
-    (λ b. let n : 1 ≡ 2 = ap number_first (is ∙ b.4) in omega arith)
-    w.back_open)
-    (λ a. let more = ap work a.4 in let some = a.2 in omega arith)
-    w.front_open
-
 pub refuted : Refuted
 refuted = record {
   planner = λ h t o. (promised h running).at_the_call.next_plan_is_best t o;
@@ -104,8 +80,6 @@ refuted = record {
   plain_release = (refl, refl);
   peak_then_energy_refuted = (refl, refl);
   all_level = λ o level. clash (sym (o.faithful 1 0 (omega arith) (omega arith)) ∙ level (1 ∷ []) (0 ∷ []));
-  in_queue_order = λ k s front back. first_served k s (front ++ back) front back refl;
-  from_the_back = from_the_back;
   clock_alone = λ l m a w e. omega (arith, w.clock, e);
   no_measure = λ w. clash (w.monotone (peak_energy 4 9) (peak_energy 5 1) (peak_energy 6 0) refl);
 }

@@ -1,11 +1,11 @@
 -- What each front of a queue loses says what a slot makes of it.
-use Rattle.std.proofs.Common.{◌≡◌, ℕ, ◌+◌, ◌-◌, min, cond, eqb, leb, List, [], ◌∷◌, ◌++◌, sym, refl, ap, ◌∙◌, subst, inl, inr, arith}
+use Rattle.std.proofs.Common.{◌≡◌, ℕ, ◌+◌, ◌-◌, min, cond, eqb, leb, List, [], ◌∷◌, ◌++◌, sym, refl, ap, ◌∙◌, subst, inl, inr, ⊎_elim, arith}
 use Rattle.std.proofs.lemmas.Bool.{cond-true, cond-false, cond_both, eq-eqb, ne_eqb}
 use Rattle.ledger.specs.declared.job.Job.{Job}
-use Rattle.ledger.specs.AnswerLaws.{StillOpen, FirstServed}
+use Rattle.ledger.specs.Stays.{job}
 use Rattle.ledger.specs.Queue.{Gone, arrived, work, lower, share, keep_open, pump_slot}
-use Rattle.ledger.specs.Theorems.{FirstServedPins}
-use Rattle.ledger.proofs.Slots.{units_arrived}
+use Rattle.ledger.specs.Served.{StillOpen, FirstServed, FirstServedPins, RunsServeFirst, ServesFirst, pumped_from_back}
+use Rattle.ledger.proofs.Slots.{first_served, units_arrived}
 
 -- ## Gone
 
@@ -142,3 +142,31 @@ first_served_pins k s (j ∷ q) r (g, d) f =
     w.is ∙ ap (λ (p : List Job). p ++ w.of_back) (first_left k s j w.of_front w.front_open w.falls)
     ∙ ap (λ (p : List Job). keep_open (lower u j) [] ++ p) rest
     ∙ keep_append (lower u j) (pump_slot k (s - u) q)
+
+-- ## Ways to pump
+
+abbrev number_first : List Job → ℕ
+number_first [] = 0
+number_first (j ∷ q) = j.number
+
+-- jobs 1 and 2, of 2 and 3 units, in slot 0 at speed 3: from the back job 2 is done, and job 1 stands as it was
+pub from_the_back : ServesFirst pumped_from_back → ⊥
+from_the_back f =
+    let w = f 0 3 (job 1 0 2 2 ∷ []) (job 2 0 4 3 ∷ []) in
+    let falls : work w.of_front ≡ 0 = omega (arith, w.falls) in
+    ⊎_elim
+    (λ (e : w.of_front ≡ []).
+    let is : job 1 0 2 2 ∷ [] ≡ w.of_back = w.is ∙ ap (λ (q : List Job). q ++ w.of_back) e in
+    ⊎_elim
+    (λ (b : w.of_back ≡ []). let n : 1 ≡ 0 = ap number_first (is ∙ b) in omega arith)
+    (λ b. let n : 1 ≡ 2 = ap number_first (is ∙ b.4) in omega arith)
+    w.back_open)
+    (λ a. let more = ap work a.4 in let some = a.2 in omega arith)
+    w.front_open
+
+pub in_queue_order : ServesFirst pump_slot
+in_queue_order k s front back = first_served k s (front ++ back) front back refl
+
+pub runs_serve_first : RunsServeFirst
+runs_serve_first l m a run front back e =
+    subst (FirstServed l.clock run.speed front back) (sym run.queue) (first_served l.clock run.speed l.queue front back e)

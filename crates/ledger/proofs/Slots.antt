@@ -3,7 +3,7 @@ use Rattle.std.proofs.Common.{◌≡◌, ℕ, zero, suc, ◌+◌, ◌-◌, ◌�
 use Rattle.std.proofs.lemmas.Bool.{cases_Bool, cond-true, cond-false, cond_both, eqb-true, eqb-false}
 use Rattle.ledger.specs.declared.job.Job.{Job}
 use Rattle.ledger.specs.Queue.{Each, Pairs, Gone, Distinct, Apart, Unnested, before, Ordered, arrived, work, lower, share, pumped, units_pumped, finished, keep_open, unfinished, pump_slot}
-use Rattle.ledger.specs.AnswerLaws.{StillOpen, FirstServed}
+use Rattle.ledger.specs.Served.{StillOpen, FirstServed}
 
 -- ## Words of the proofs
 

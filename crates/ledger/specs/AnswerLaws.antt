@@ -1,5 +1,5 @@
 -- Words: the laws of the answers. What each call answers and changes, in terms of the queue before and after.
-use Rattle.std.specs.Prelude.{◌≡◌, ℕ, suc, ◌+◌, ◌≤◌, min, true, false, ◌⊎◌, List, [], ◌∷◌, ◌++◌, length, Some, None}
+use Rattle.std.specs.Prelude.{◌≡◌, ℕ, suc, ◌+◌, min, true, false, List, [], ◌∷◌, ◌++◌, length, Some, None}
 use Rattle.ledger.specs.declared.job.Job.{Job}
 use Rattle.ledger.specs.declared.refusal.Refusal.{Refusal}
 use Rattle.ledger.specs.Queue.{Each, before, work, arrived, pump_slot}
@@ -52,23 +52,6 @@ pub record PlanningIsLawful (l m : Ledger) (mark : ℕ) (ss : List ℕ) : Type 0
   pub queue : m.queue ≡ l.queue
   pub standing : m.standing ≡ plan mark ss
 
--- r is what is left of q: each job of q is gone, or stands in its place, with its number and slots, and no more left than it had
-abbrev pub StillOpen : List Job → List Job → Type 0
-StillOpen [] r = r ≡ []
-StillOpen (j ∷ q) r =
-    StillOpen q r
-    ⊎ ((n : ℕ) × (rest : List Job) × (1 ≤ n) × (n ≤ j.left) × (r ≡ record { number = j.number; release = j.release; due = j.due; left = n } ∷ rest) × StillOpen q rest)
-
--- first in the queue, first served: in slot k at speed s the work of the queue's front falls by the smaller of s and what
--- has arrived of it, whatever stands behind; r is the queue after the slot, what is left of the front and then of the back
-pub record FirstServed (k s : ℕ) (front back r : List Job) : Type 0 where
-  pub of_front : List Job
-  pub of_back : List Job
-  pub is : r ≡ of_front ++ of_back
-  pub front_open : StillOpen front of_front
-  pub back_open : StillOpen back of_back
-  pub falls : work front ≡ work of_front + min s (arrived front k)
-
 -- a slot runs at the first speed of the standing plan, pumps the smaller of it and what has arrived, which is what the
 -- open work falls by, and finishes as many jobs as the count falls by
 pub record RunIsLawful (l m : Ledger) (a : Answer) : Type 0 where
@@ -80,8 +63,7 @@ pub record RunIsLawful (l m : Ledger) (a : Answer) : Type 0 where
   pub answers : a ≡ ran speed (min speed (arrived l.queue l.clock)) gone
   pub falls : work l.queue ≡ work m.queue + min speed (arrived l.queue l.clock)
   pub count_falls : length l.queue ≡ length m.queue + gone
-  -- in queue order: since this holds of every front of the queue, it says what each job loses (`first_served_pins_a_slot`)
-  pub first_served : (front back : List Job) → l.queue ≡ front ++ back → FirstServed l.clock speed front back m.queue
+  -- in queue order
   pub queue : m.queue ≡ pump_slot l.clock speed l.queue
   pub slots : m.slots ≡ l.slots
   pub speeds : m.speeds ≡ l.speeds

@@ -1,13 +1,14 @@
 -- Words: ledger, standing plan, call, sequence, refusal, what a call makes of the ledger.
 -- The ledger is the model that a stay is compared with. It is fed calls and nothing else: whether a call is refused it finds by
 -- the rules, so that what a stay refuses is compared too.
-use Rattle.std.specs.Prelude.{ℕ, suc, ◌+◌, ◌-◌, ◌*◌, Bool, true, false, cond, not, ◌&&◌, ◌||◌, List, [], ◌∷◌, length, replicate, Some, None, Option, ◌==◌, nat_le, nat_lt, slice_index}
+use Rattle.std.specs.Prelude.{ℕ, suc, ◌+◌, ◌-◌, ◌*◌, ◌≤◌, Bool, true, false, cond, not, ◌&&◌, ◌||◌, List, [], ◌∷◌, length, replicate, Some, None, Option, ◌==◌, nat_le, nat_lt, slice_index}
+use Rattle.tariff.specs.Charges.{last_slot, top_speed, largest_charge}
 use Rattle.measure.specs.Orders.{Order, charge_lists}
 use Rattle.recursion.specs.Pumps.{Pump, work_after, charges_from, planned_speeds, InTimeSequence}
 use Rattle.recursion.specs.Speeds.{lawful_speeds}
 use Rattle.ledger.specs.declared.job.Job.{Job}
 use Rattle.ledger.specs.declared.refusal.Refusal.{Refusal}
-use Rattle.ledger.specs.declared.refusal.Refusal.TheVariants.{SlotCount, SpeedList, JobNumber, JobSlots, JobWork, NumberOpen, QueueFull, Nested, NotInTime, NoSuchJob, ShortMemory, StayOver, NotPlanned}
+use Rattle.ledger.specs.declared.refusal.Refusal.TheVariants.{SlotCount, SpeedList, JobNumber, JobSlots, JobWork, NumberOpen, NoRoom, Nested, NotInTime, NoSuchJob, ShortMemory, StayOver, NotPlanned}
 use Rattle.ledger.specs.Limits.{most_slots, most_jobs, most_work, largest_number}
 use Rattle.ledger.specs.Queue.{inside, enter, strike, arrived, owed, work, pump_slot}
 
@@ -23,9 +24,10 @@ pub record Ledger : Type 0 where
   pub queue : List Job
   pub standing : Standing
 
--- what a tariff means: a charge for each slot and speed; its bound is the tariff's own law, and nothing here asks for it
-abbrev pub Charges : Type 0
-Charges = ℕ → ℕ → ℕ
+-- what a tariff means: a charge for each slot and speed, within its bound
+pub record Charges : Type 0 where
+  pub charge : ℕ → ℕ → ℕ
+  pub bounded : (k s : ℕ) → k ≤ last_slot → s ≤ top_speed → charge k s ≤ largest_charge
 
 -- a call
 pub data Call : Type 0 where
@@ -75,10 +77,10 @@ can_be_in_time l q = keeps_time (pump_for l.speeds q no_charge) l.clock 0 (top_t
 
 -- the speeds that planning finds, from the clock to the last slot, and the charges of speeds from the clock on
 abbrev pub plan_for : Ledger → Charges → Order → List ℕ
-plan_for l t o = planned_speeds (charge_lists o.not_above) (pump_for l.speeds l.queue t) (slots_left l) l.clock 0
+plan_for l t o = planned_speeds (charge_lists o.not_above) (pump_for l.speeds l.queue t.charge) (slots_left l) l.clock 0
 
 abbrev pub charges_of : Ledger → Charges → List ℕ → List ℕ
-charges_of l t ss = charges_from (pump_for l.speeds l.queue t) l.clock ss
+charges_of l t ss = charges_from (pump_for l.speeds l.queue t.charge) l.clock ss
 
 -- ## Refusals
 
@@ -104,25 +106,16 @@ is_planned (plan mark ss) = true
 abbrev pub rule : Refusal → Bool → Option Refusal → Option Refusal
 rule r holds rest = cond holds (Some r) rest
 
--- the rules of a booking on the job's own numbers, at a clock and with so many slots
-abbrev pub job_rules : ℕ → ℕ → Job → Option Refusal → Option Refusal
-job_rules clock slots j rest =
-    rule JobNumber (j.number == 0 || nat_lt largest_number j.number)
-    (rule JobSlots (nat_lt j.release clock || (nat_le j.due j.release || nat_lt slots j.due))
-    (rule JobWork (j.left == 0 || nat_lt most_work j.left)
-    rest))
-
--- those on the queue that it would join
-abbrev pub queue_rules : ℕ → List Job → Job → Option Refusal → Option Refusal
-queue_rules clock q j rest =
-    rule NumberOpen (is_open j.number q)
-    (rule QueueFull (nat_le most_jobs (length q) || nat_lt most_work (work q + j.left))
-    (rule Nested (nested clock j q)
-    rest))
-
--- all of them but for the last, then the rest
+-- the rules of a booking but for the last, then the rest
 abbrev pub booking_rules : Ledger → Job → Option Refusal → Option Refusal
-booking_rules l j rest = job_rules l.clock l.slots j (queue_rules l.clock l.queue j rest)
+booking_rules l j rest =
+    rule JobNumber (j.number == 0 || nat_lt largest_number j.number)
+    (rule JobSlots (nat_lt j.release l.clock || (nat_le j.due j.release || nat_lt l.slots j.due))
+    (rule JobWork (j.left == 0 || nat_lt most_work j.left)
+    (rule NumberOpen (is_open j.number l.queue)
+    (rule NoRoom (nat_le most_jobs (length l.queue) || nat_lt most_work (work l.queue + j.left))
+    (rule Nested (nested l.clock j l.queue)
+    rest)))))
 
 -- the first rule that holds
 abbrev pub refusal : Ledger → Call → Option Refusal

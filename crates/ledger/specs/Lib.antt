@@ -5,6 +5,7 @@ pub mod Ledger
 pub mod Answers
 pub mod Sound
 pub mod AnswerLaws
+pub mod Served
 pub mod QuestionLaws
 pub mod Promise
 pub mod Theorems

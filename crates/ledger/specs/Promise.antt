@@ -43,7 +43,7 @@ pub record Upheld (l : Ledger) : Type 0 where
   pub sound : Sound l
   -- every open job is due after the clock
   pub nothing_overdue : Each (λ j. l.clock < j.due) l.queue
-  -- under every charge and every order on lists of charges, so under every tariff and every measure
+  -- under every tariff and every measure
   pub next_plan_is_best : (t : Charges) (o : Order) → IsBest l t o (plan_for l t o)
   pub next_booking_is_exact : (j : Job) → ExactVerdict l j (refusal l (booking j))
 

@@ -1,7 +1,7 @@
 -- Words: the number of a refusal.
 use Rattle.std.specs.Prelude.{ℕ}
 use Rattle.ledger.specs.declared.refusal.Refusal.{Refusal}
-use Rattle.ledger.specs.declared.refusal.Refusal.TheVariants.{SlotCount, SpeedList, JobNumber, JobSlots, JobWork, NumberOpen, QueueFull, Nested, NotInTime, NoSuchJob, ShortMemory, StayOver, NotPlanned}
+use Rattle.ledger.specs.declared.refusal.Refusal.TheVariants.{SlotCount, SpeedList, JobNumber, JobSlots, JobWork, NumberOpen, NoRoom, Nested, NotInTime, NoSuchJob, ShortMemory, StayOver, NotPlanned}
 
 abbrev pub refusal_number : Refusal → ℕ
 refusal_number SlotCount = 1
@@ -10,7 +10,7 @@ refusal_number JobNumber = 3
 refusal_number JobSlots = 4
 refusal_number JobWork = 5
 refusal_number NumberOpen = 6
-refusal_number QueueFull = 7
+refusal_number NoRoom = 7
 refusal_number Nested = 8
 refusal_number NotInTime = 9
 refusal_number NoSuchJob = 10

@@ -1,7 +1,9 @@
 -- Words: the stays of the tables, told by the calls that lead to them, latest first.
 -- Stay A has four slots and speeds 0, 1 and 3 at energies 1, 4 and 15.
-use Rattle.std.specs.Prelude.{ℕ, zero, suc, List, [], ◌∷◌, Some, None, Option}
+use Rattle.std.specs.Prelude.{ℕ, zero, suc, ◌≤◌, List, [], ◌∷◌, Some, None, Option, slice_index}
+use Rattle.std.proofs.Common.{arith}
 use Rattle.tariff.specs.Bounds.{price_list_charge, table_charge}
+use Rattle.tariff.specs.Charges.{largest_charge}
 use Rattle.measure.specs.Energies.{energy_laws}
 use Rattle.measure.specs.Orders.{Order, order_of}
 use Rattle.measure.specs.Peaks.{peak_laws}
@@ -17,12 +19,19 @@ energies = order_of energy_laws
 abbrev pub peaks : Order
 peaks = order_of peak_laws
 
+pub energy_bounded : (s : ℕ) → slice_index (1 ∷ 4 ∷ 0 ∷ 15 ∷ []) s ≤ largest_charge
+energy_bounded zero = omega arith
+energy_bounded (suc zero) = omega arith
+energy_bounded (suc (suc zero)) = omega arith
+energy_bounded (suc (suc (suc zero))) = omega arith
+energy_bounded (suc (suc (suc (suc s)))) = omega arith
+
 -- the energies, and the same at the prices 1, 1, 9, 9
 abbrev pub table : Charges
-table = table_charge (1 ∷ 4 ∷ 0 ∷ 15 ∷ [])
+table = record { charge = table_charge (1 ∷ 4 ∷ 0 ∷ 15 ∷ []); bounded = λ k s _ _. energy_bounded s }
 
 abbrev pub priced_table : Charges
-priced_table = price_list_charge table (1 ∷ 1 ∷ 9 ∷ 9 ∷ [])
+priced_table = record { charge = price_list_charge table.charge (1 ∷ 1 ∷ 9 ∷ 9 ∷ []); bounded = λ k s _ _. omega arith }
 
 -- number, release, due slot, work
 abbrev pub job : ℕ → ℕ → ℕ → ℕ → Job

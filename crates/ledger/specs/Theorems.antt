@@ -1,5 +1,5 @@
--- Words: running and work sums agree, top speed decides, first served pins, open work arrives, a measure's own values.
-use Rattle.std.specs.Prelude.{◌≡◌, ℕ, ◌-◌, ◌<◌, ◌≤◌, true, false, List, [], ◌++◌, length}
+-- Words: running and work sums agree, top speed decides, open work arrives, a measure's own values.
+use Rattle.std.specs.Prelude.{◌≡◌, ℕ, ◌-◌, ◌<◌, ◌≤◌, true, false, List, [], length}
 use Rattle.measure.specs.Kinds.{Kind, Laws, measure_of}
 use Rattle.measure.specs.Orders.{order_of}
 use Rattle.recursion.specs.Optimality.{IsLeast, Recursion}
@@ -7,8 +7,7 @@ use Rattle.recursion.specs.Pumps.{InTime, decisions, planned_speeds}
 use Rattle.recursion.specs.Speeds.{lawful_speeds}
 use Rattle.recursion.specs.Staged.{Rising}
 use Rattle.ledger.specs.declared.job.Job.{Job}
-use Rattle.ledger.specs.AnswerLaws.{FirstServed}
-use Rattle.ledger.specs.Queue.{Each, Distinct, Ordered, Unnested, arrived, work, pump_slot}
+use Rattle.ledger.specs.Queue.{Each, Distinct, Ordered, Unnested, arrived, work}
 use Rattle.ledger.specs.Ledger.{Ledger, Charges, slots_left, pump_for, no_charge, Sequence, top_throughout, can_be_in_time, plan_for, charges_of}
 use Rattle.ledger.specs.Promise.{Finishes, Rival}
 
@@ -42,12 +41,6 @@ pub record TopDecides (l : Ledger) (q : List Job) : Type 0 where
 abbrev pub TopSpeedDecides : Type 0
 TopSpeedDecides = (l : Ledger) (q : List Job) → lawful_speeds l.speeds ≡ true → TopDecides l q
 
--- the law that the first in the queue is served first leaves no choice: of jobs with numbers of their own, a slot makes just
--- the one queue
-abbrev pub FirstServedPins : Type 0
-FirstServedPins =
-    (k s : ℕ) (q r : List Job) → Distinct q → ((front back : List Job) → q ≡ front ++ back → FirstServed k s front back r) → r ≡ pump_slot k s q
-
 -- the open work of a ledger: while a slot is left, all of it has arrived by the last slot; at the end there is none
 pub record OpenWorkArrives (l : Ledger) : Type 0 where
   pub by_last_slot : arrived l.queue (l.slots - 1) ≡ work l.queue
@@ -56,12 +49,12 @@ pub record OpenWorkArrives (l : Ledger) : Type 0 where
 -- the promise of planning in the words of a measure of its own
 pub record MeasuredPlan {M : Type 0} (q : Kind M) (laws : Laws q) (l : Ledger) (t : Charges) : Type 0 where
   -- what is least keeps the rule of the recursion; the listed speeds rise, so of level ones the lowest is planned
-  pub by_the_rule : (m i e : ℕ) → Recursion q (decisions (pump_for l.speeds l.queue t)) m i e
+  pub by_the_rule : (m i e : ℕ) → Recursion q (decisions (pump_for l.speeds l.queue t.charge)) m i e
   pub rises : Rising l.speeds
   -- the speeds that the recursion finds over the measure's own values are those of the ledger
-  pub same_speeds : planned_speeds q (pump_for l.speeds l.queue t) (slots_left l) l.clock 0 ≡ plan_for l t (order_of laws)
+  pub same_speeds : planned_speeds q (pump_for l.speeds l.queue t.charge) (slots_left l) l.clock 0 ≡ plan_for l t (order_of laws)
   -- there is a least, and it is the measure of their charges
-  pub exists : (s : ℕ) × IsLeast q (decisions (pump_for l.speeds l.queue t)) (slots_left l) l.clock 0 s (measure_of q (charges_of l t (plan_for l t (order_of laws))))
+  pub exists : (s : ℕ) × IsLeast q (decisions (pump_for l.speeds l.queue t.charge)) (slots_left l) l.clock 0 s (measure_of q (charges_of l t (plan_for l t (order_of laws))))
   -- they finish every open job in time, and no rival measures less
   pub finishes : Rival l (plan_for l t (order_of laws))
   pub none_below : (ss : List ℕ) → Rival l ss → q.not_above (measure_of q (charges_of l t (plan_for l t (order_of laws)))) (measure_of q (charges_of l t ss)) ≡ true

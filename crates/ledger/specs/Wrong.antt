@@ -1,6 +1,6 @@
--- Words: wrong planners, verdicts, nestings, ways to pump and measures. Each is refuted, which shows that the promise, the tables and
+-- Words: wrong planners, verdicts, nestings and measures. Each is refuted, which shows that the promise, the tables and
 -- the laws of measures say something.
-use Rattle.std.specs.Prelude.{◌≡◌, ℕ, ◌+◌, ◌-◌, max, Bool, true, false, ◌&&◌, ◌||◌, List, [], ◌∷◌, ◌++◌, reverse, take, replicate, Some, None, Option, ◌==◌, ◌≢◌, nat_le, nat_lt}
+use Rattle.std.specs.Prelude.{◌≡◌, ℕ, ◌+◌, ◌-◌, max, Bool, true, false, ◌&&◌, ◌||◌, List, [], ◌∷◌, ◌++◌, take, replicate, Some, None, Option, ◌==◌, ◌≢◌, nat_le, nat_lt}
 use Rattle.measure.specs.Kinds.{Kind, Laws}
 use Rattle.measure.specs.Orders.{Order}
 use Rattle.ledger.specs.declared.job.Job.{Job}
@@ -8,8 +8,7 @@ use Rattle.ledger.specs.declared.refusal.Refusal.{Refusal}
 use Rattle.ledger.specs.declared.refusal.Refusal.TheVariants.{NotInTime}
 use Rattle.ledger.specs.Ledger.{Ledger, Charges, Call, booking, slots_left, top_of, top_throughout, plan_for, nested, booking_rules, refusal, ledger}
 use Rattle.ledger.specs.Answers.{Answer}
-use Rattle.ledger.specs.AnswerLaws.{FirstServed, RunIsLawful}
-use Rattle.ledger.specs.Queue.{pump_slot}
+use Rattle.ledger.specs.AnswerLaws.{RunIsLawful}
 use Rattle.ledger.specs.Promise.{IsBest, ExactVerdict}
 use Rattle.ledger.specs.Stays.{job, wide, by_energy, ran_on}
 
@@ -24,14 +23,6 @@ top_after_first l t o = take 1 (plan_for l t o) ++ replicate (slots_left l - 1) 
 -- a verdict on bookings that is exact after every list of calls
 abbrev pub VerdictsExact : (Ledger → Job → Option Refusal) → Type 0
 VerdictsExact verdict = (h : List Call) (j : Job) → ExactVerdict (ledger h) j (verdict (ledger h) j)
-
--- a way to pump a slot that serves the first in the queue first
-abbrev pub ServesFirst : (ℕ → ℕ → List Job → List Job) → Type 0
-ServesFirst pump = (k s : ℕ) (front back : List Job) → FirstServed k s front back (pump k s (front ++ back))
-
--- a slot pumped from the back of the queue
-abbrev pub pumped_from_back : ℕ → ℕ → List Job → List Job
-pumped_from_back k s q = reverse (pump_slot k s (reverse q))
 
 -- nesting by the plain release
 abbrev pub inside_plainly : Job → Job → Bool
@@ -79,8 +70,5 @@ pub record Refuted : Type 0 where
   pub no_measure : Laws peak_then_energy → ⊥
   -- an order that finds all lists level does not order charges as numbers
   pub all_level : (o : Order) → ((a b : List ℕ) → o.not_above a b ≡ true) → ⊥
-  -- pumping in queue order serves the first in the queue first; from the back of the queue does not
-  pub in_queue_order : ServesFirst pump_slot
-  pub from_the_back : ServesFirst pumped_from_back → ⊥
   -- a slot that leaves the clock alone is no lawful run
   pub clock_alone : (l m : Ledger) (a : Answer) → RunIsLawful l m a → m.clock ≢ l.clock

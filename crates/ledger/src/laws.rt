@@ -4,9 +4,11 @@ ghost use Rattle.ledger.specs.AnswerLaws.{AnswerIsLawful};
 ghost use Rattle.ledger.specs.Ledger.{Call, Charges, ledger};
 ghost use Rattle.ledger.specs.Promise.{Promise};
 ghost use Rattle.ledger.specs.QuestionLaws.{QuestionsAreLawful};
+ghost use Rattle.ledger.specs.Queue.{pump_slot};
+ghost use Rattle.ledger.specs.Served.{FirstServedPins, RunsServeFirst, ServesFirst, pumped_from_back};
 ghost use Rattle.ledger.specs.Sound.{Sound};
 ghost use Rattle.ledger.specs.SoundTest.{SoundIsTested};
-ghost use Rattle.ledger.specs.Theorems.{InLine, RunsAlwaysAgree, TopSpeedDecides, FirstServedPins, OpenWorkArrives, MeasuredPlan};
+ghost use Rattle.ledger.specs.Theorems.{InLine, RunsAlwaysAgree, TopSpeedDecides, OpenWorkArrives, MeasuredPlan};
 
 use measure::Measure;
 
@@ -39,9 +41,13 @@ pub fn answers_are_lawful()
     ensures { (h : List Call) (c : Call) → AnswerIsLawful (ledger h) c }
 {}
 
-/// First in the queue, first served: this law of a run slot says what each job loses, so it leaves just one queue.
+/// First in the queue, first served: this law of a run slot says what each job loses, so it leaves just one queue. Pumping in
+/// queue order keeps it; from the back of the queue does not.
 pub fn first_served_pins_a_slot()
-    ensures { FirstServedPins }
+    ensures pins { FirstServedPins }
+    ensures runs { RunsServeFirst }
+    ensures in_queue_order { ServesFirst pump_slot }
+    ensures from_the_back { ServesFirst pumped_from_back → ⊥ }
 {}
 
 /// A job is told for each place below the count; a speed and a mark while a plan stands, the speed for each slot not yet run.

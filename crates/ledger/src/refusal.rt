@@ -18,7 +18,7 @@ pub enum Refusal {
     /// Booking: the number is in use.
     NumberOpen,
     /// Booking: there would be more than 64 open jobs or 600 units in all.
-    QueueFull,
+    NoRoom,
     /// Booking: the job and an open one would lie one inside the other.
     Nested,
     /// Booking: once it is queued, no speeds keep every due slot.
@@ -45,7 +45,7 @@ impl Refusal {
             Refusal::JobSlots => 4,
             Refusal::JobWork => 5,
             Refusal::NumberOpen => 6,
-            Refusal::QueueFull => 7,
+            Refusal::NoRoom => 7,
             Refusal::Nested => 8,
             Refusal::NotInTime => 9,
             Refusal::NoSuchJob => 10,

@@ -3,7 +3,7 @@ use Rattle.std.proofs.Common.{◌≡◌, ℕ, ◌+◌, Bool, true, false, not, �
 use Rattle.recursion.specs.Speeds.{lawful_speeds}
 use Rattle.ledger.specs.declared.job.Job.{Job}
 use Rattle.ledger.specs.declared.refusal.Refusal.{Refusal}
-use Rattle.ledger.specs.declared.refusal.Refusal.TheVariants.{SlotCount, SpeedList, JobNumber, JobSlots, JobWork, NumberOpen, QueueFull, Nested, NotInTime, NoSuchJob, StayOver, NotPlanned}
+use Rattle.ledger.specs.declared.refusal.Refusal.TheVariants.{SlotCount, SpeedList, JobNumber, JobSlots, JobWork, NumberOpen, NoRoom, Nested, NotInTime, NoSuchJob, StayOver, NotPlanned}
 use Rattle.ledger.specs.Limits.{most_slots, most_jobs, most_work, largest_number}
 use Rattle.ledger.specs.Queue.{enter, work}
 use Rattle.ledger.specs.Ledger.{Ledger, opening, booking, withdrawing, running, can_be_in_time, is_open, nested, is_planned, rule, job_rules, queue_rules, booking_rules, refusal, with_queue, accepted, unless_refused}
@@ -43,7 +43,7 @@ job_first k n j rest =
     three_first JobNumber JobSlots JobWork (eqb j.number 0 || ltb largest_number j.number) (ltb j.release k || (leb j.due j.release || ltb n j.due)) (eqb j.left 0 || ltb most_work j.left) rest
 
 queue_first : (k : ℕ) (q : List Job) (j : Job) (rest : Option Refusal) → queue_rules k q j rest ≡ unless_refused (queue_rules k q j None) Some rest
-queue_first k q j rest = three_first NumberOpen QueueFull Nested (is_open j.number q) (leb most_jobs (length q) || ltb most_work (work q + j.left)) (nested k j q) rest
+queue_first k q j rest = three_first NumberOpen NoRoom Nested (is_open j.number q) (leb most_jobs (length q) || ltb most_work (work q + j.left)) (nested k j q) rest
 
 -- a job j is asked for: what its own numbers are told, then what the job i that they make is told of the queue
 

@@ -65,7 +65,7 @@ impl Stay {
             return Err(Refusal::NumberOpen);
         }
         if is_full(self.table, job.left) {
-            return Err(Refusal::QueueFull);
+            return Err(Refusal::NoRoom);
         }
         if nests(self.table, self.clock, job) {
             return Err(Refusal::Nested);
