@@ -78,7 +78,7 @@ ahead_all q clock slots k out e h =
 
 -- ## The pump that it describes
 
-feeds_ahead : (speeds : List ℕ) (q : List Job) (t : Charges) (k n : ℕ) → Feeds (pump_for speeds q t) k (work_ahead q k n)
+feeds_ahead : (speeds : List ℕ) (q : List Job) (t : ℕ → ℕ → ℕ) (k n : ℕ) → Feeds (pump_for speeds q t) k (work_ahead q k n)
 feeds_ahead speeds q t k zero = tt
 feeds_ahead speeds q t k (suc n) = (refl, refl, feeds_ahead speeds q t (suc k) n)
 
@@ -86,7 +86,7 @@ fed_alike : (y z : Pump) (k : ℕ) (ws : List SlotWork) → ((i s : ℕ) → y.c
 fed_alike y z k [] same f g = tt
 fed_alike y z k (w ∷ ws) same f g = (f.0 ∙ sym g.0, f.1 ∙ sym g.1, same k, fed_alike y z (suc k) ws same f.2 g.2)
 
-same_slots : (speeds : List ℕ) (q : List Job) (t : Charges) (k n : ℕ) → SameSlots (pump_of speeds k (work_ahead q k n) t) (pump_for speeds q t) n k
+same_slots : (speeds : List ℕ) (q : List Job) (t : ℕ → ℕ → ℕ) (k n : ℕ) → SameSlots (pump_of speeds k (work_ahead q k n) t) (pump_for speeds q t) n k
 same_slots speeds q t k n =
     let ws = work_ahead q k n in
     let y = pump_of speeds k ws t in
@@ -159,28 +159,28 @@ module _ {M : Type 0} {q : Kind M} (laws : Laws q) (l : Ledger) (t : Charges) (w
   abbrev pub the_measure : M
   the_measure = measure_of q (charges_of l t the_plan)
 
-  same_pump : SamePlan q (pump_of l.speeds l.clock ahead t) (pump_for l.speeds l.queue t) (slots_left l) l.clock 0
+  same_pump : SamePlan q (pump_of l.speeds l.clock ahead t.charge) (pump_for l.speeds l.queue t.charge) (slots_left l) l.clock 0
   same_pump =
-      same_plan q (pump_of l.speeds l.clock ahead t) (pump_for l.speeds l.queue t) (slots_left l) l.clock 0 refl (same_slots l.speeds l.queue t l.clock (slots_left l))
+      same_plan q (pump_of l.speeds l.clock ahead t.charge) (pump_for l.speeds l.queue t.charge) (slots_left l) l.clock 0 refl (same_slots l.speeds l.queue t.charge l.clock (slots_left l))
 
   -- the speeds that planning finds are the ledger's
-  pub planned_ahead : (listed : List ℕ) (ws : List SlotWork) → listed ≡ l.speeds → ws ≡ ahead → planned_speeds q (pump_of listed l.clock ws t) (length ws) l.clock 0 ≡ the_plan
+  pub planned_ahead : (listed : List ℕ) (ws : List SlotWork) → listed ≡ l.speeds → ws ≡ ahead → planned_speeds q (pump_of listed l.clock ws t.charge) (length ws) l.clock 0 ≡ the_plan
   planned_ahead listed ws is are =
-      ap (λ (v : List ℕ). planned_speeds q (pump_of v l.clock ws t) (length ws) l.clock 0) is
-      ∙ ap (λ (v : List SlotWork). planned_speeds q (pump_of l.speeds l.clock v t) (length v) l.clock 0) are
-      ∙ ap (λ (n : ℕ). planned_speeds q (pump_of l.speeds l.clock ahead t) n l.clock 0) (length_ahead l.queue l.clock (slots_left l))
+      ap (λ (v : List ℕ). planned_speeds q (pump_of v l.clock ws t.charge) (length ws) l.clock 0) is
+      ∙ ap (λ (v : List SlotWork). planned_speeds q (pump_of l.speeds l.clock v t.charge) (length v) l.clock 0) are
+      ∙ ap (λ (n : ℕ). planned_speeds q (pump_of l.speeds l.clock ahead t.charge) n l.clock 0) (length_ahead l.queue l.clock (slots_left l))
       ∙ same_pump.planned
       ∙ (measured_plan laws l t w).same_speeds
 
   module _ (bytes measures : ℕ) where
     ahead_answer : Result M Unplanned
-    ahead_answer = plan_answer q (pump_of l.speeds l.clock ahead t) l.clock ahead bytes measures (slots_left l)
+    ahead_answer = plan_answer q (pump_of l.speeds l.clock ahead t.charge) l.clock ahead bytes measures (slots_left l)
 
     -- with memory enough, the measure of the plan's charges is answered
     enough_answer : memory_short ahead bytes measures ≡ false → ahead_answer ≡ Ok the_measure
     unfolding ahead_answer
     enough_answer enough =
-        let y = pump_of l.speeds l.clock ahead t in
+        let y = pump_of l.speeds l.clock ahead t.charge in
         answer_least q y l.clock ahead bytes measures (slots_left l) (places_right l w) w.lawful enough
         ∙ ap (λ (n : ℕ). least_or (least q (decisions y) n l.clock 0)) (length_ahead l.queue l.clock (slots_left l))
         ∙ ap least_or same_pump.least
@@ -190,7 +190,7 @@ module _ {M : Type 0} {q : Kind M} (laws : Laws q) (l : Ledger) (t : Charges) (w
     short_answer : memory_short ahead bytes measures ≡ true → ahead_answer ≡ Err Memory
     unfolding ahead_answer
     short_answer short =
-        let y = pump_of l.speeds l.clock ahead t in
+        let y = pump_of l.speeds l.clock ahead t.charge in
         let z : Result M Unplanned = least_or (least q (decisions y) (length ahead) l.clock 0) in
         let m : Result M Unplanned = cond (memory_short ahead bytes measures) (Err Memory) z in
         cond-false (slots_wrong l.clock ahead (slots_left l)) (Err Slots) (cond (not (lawful_speeds l.speeds)) (Err Speeds) m) (places_right l w)
@@ -199,14 +199,14 @@ module _ {M : Type 0} {q : Kind M} (laws : Laws q) (l : Ledger) (t : Charges) (w
 
     -- so a stay answers what the ledger does
     pub stay_answer : (mark : ℕ) (listed : List ℕ) (ws : List SlotWork) (places : ℕ) → listed ≡ l.speeds → ws ≡ ahead → places ≡ slots_left l →
-        or_short (plan_answer q (pump_of listed l.clock ws t) l.clock ws bytes measures places)
+        or_short (plan_answer q (pump_of listed l.clock ws t.charge) l.clock ws bytes measures places)
         ≡ unless_refused (refusal l (planning t (order_of laws) mark bytes measures)) Err (Ok the_measure)
     unfolding ahead_answer
     stay_answer mark listed ws places is are so =
-        let told : plan_answer q (pump_of listed l.clock ws t) l.clock ws bytes measures places ≡ ahead_answer =
-        ap (λ (v : List ℕ). plan_answer q (pump_of v l.clock ws t) l.clock ws bytes measures places) is
-        ∙ ap (λ (v : List SlotWork). plan_answer q (pump_of l.speeds l.clock v t) l.clock v bytes measures places) are
-        ∙ ap (λ (n : ℕ). plan_answer q (pump_of l.speeds l.clock ahead t) l.clock ahead bytes measures n) so in
+        let told : plan_answer q (pump_of listed l.clock ws t.charge) l.clock ws bytes measures places ≡ ahead_answer =
+        ap (λ (v : List ℕ). plan_answer q (pump_of v l.clock ws t.charge) l.clock ws bytes measures places) is
+        ∙ ap (λ (v : List SlotWork). plan_answer q (pump_of l.speeds l.clock v t.charge) l.clock v bytes measures places) are
+        ∙ ap (λ (n : ℕ). plan_answer q (pump_of l.speeds l.clock ahead t.charge) l.clock ahead bytes measures n) so in
         let by_rule : Bool → Result M Refusal = λ b. unless_refused (rule ShortMemory b None) Err (Ok the_measure) in
         ap or_short told
         ∙ ⊎_elim

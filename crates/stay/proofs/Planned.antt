@@ -33,7 +33,7 @@ module _ {M : Type 0} {q : Kind M} (laws : Laws q) (l : Ledger) (t : Charges) (m
     pub planned_own : (m : M) → m ≡ measure_of q (charges_of l t (plan_for l t (order_of laws))) → OwnPlan q t mark l n m
     planned_own m measured =
         let b = measured_plan laws l t (sound_holds l holds) in
-        let y = pump_for l.speeds l.queue t in
+        let y = pump_for l.speeds l.queue t.charge in
         record {
           speeds = plan_for l t (order_of laws);
           stands = stands;

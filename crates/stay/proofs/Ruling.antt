@@ -6,7 +6,8 @@ use Rattle.ledger.specs.declared.refusal.Refusal.{Refusal}
 use Rattle.ledger.specs.declared.refusal.Refusal.TheVariants.{SlotCount, SpeedList, JobNumber, JobSlots, JobWork, NumberOpen, NoRoom, Nested, NotInTime, NoSuchJob, StayOver, NotPlanned}
 use Rattle.ledger.specs.Limits.{most_slots, most_jobs, most_work, largest_number}
 use Rattle.ledger.specs.Queue.{enter, work}
-use Rattle.ledger.specs.Ledger.{Ledger, opening, booking, withdrawing, running, can_be_in_time, is_open, nested, is_planned, rule, job_rules, queue_rules, booking_rules, refusal, with_queue, accepted, unless_refused}
+use Rattle.ledger.specs.Ledger.{Ledger, opening, booking, withdrawing, running, can_be_in_time, is_open, nested, is_planned, rule, booking_rules, refusal, with_queue, accepted, unless_refused}
+use Rattle.stay.specs.BookingRules.{job_rules, queue_rules}
 
 -- ## A result that goes by the rules o
 

@@ -50,11 +50,11 @@ pub record OwnPlan {M : Type 0} (q : Kind M) (t : Charges) (mark : ℕ) (l m : L
   pub speeds : List ℕ
   pub stands : m.standing ≡ plan mark speeds
   -- they are the planned speeds of the recursion, whose rule is this; the listed speeds rise, so of level ones the lowest is taken
-  pub planned : speeds ≡ planned_speeds q (pump_for l.speeds l.queue t) (slots_left l) l.clock 0
-  pub by_the_rule : (n k e : ℕ) → PumpRecursion q (pump_for l.speeds l.queue t) n k e
+  pub planned : speeds ≡ planned_speeds q (pump_for l.speeds l.queue t.charge) (slots_left l) l.clock 0
+  pub by_the_rule : (n k e : ℕ) → PumpRecursion q (pump_for l.speeds l.queue t.charge) n k e
   pub rises : Rising l.speeds
   -- the measure answered is the least, from the clock on with no work done
-  pub least : LeastIs q (pump_for l.speeds l.queue t) (slots_left l) l.clock 0 x
+  pub least : LeastIs q (pump_for l.speeds l.queue t.charge) (slots_left l) l.clock 0 x
   -- it is that of the speeds' own charges: those of their slots from the clock on, joined in this order, with nought at the end
   pub measure : x ≡ measure_of q (charges_of l t speeds)
   -- run on the ledger they finish every open job in time, and no rival measures less

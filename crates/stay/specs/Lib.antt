@@ -3,5 +3,7 @@ pub mod Room
 pub mod Image
 pub mod Contents
 pub mod Works
+pub mod Tariffs
+pub mod BookingRules
 pub mod Calls
 pub mod Histories

@@ -2,9 +2,10 @@
 ghost use Rattle.std.specs.Prelude.{◌≡◌, ◌+◌, ◌<◌, ◌≤◌, false, ◌||◌, length, None, Ok, Err, OnOk, nat_le, nat_lt};
 ghost use Rattle.ledger.specs.Limits.{most_jobs, most_work};
 ghost use Rattle.ledger.specs.Queue.{work as work_of};
-ghost use Rattle.ledger.specs.Ledger.{booking as booking_call, job_rules, queue_rules, can_be_in_time, unless_refused};
+ghost use Rattle.ledger.specs.Ledger.{booking as booking_call, can_be_in_time, unless_refused};
 ghost use Rattle.ledger.specs.Answers.{booked};
 ghost use Rattle.ledger.specs.Promise.{ExactVerdict};
+ghost use Rattle.stay.specs.BookingRules.{job_rules, queue_rules};
 ghost use Rattle.stay.specs.Calls.{Follows, Kept, answer_of, verdict_of};
 ghost use Rattle.stay.specs.Contents.{contents};
 ghost use Rattle.stay.specs.Jobs.{queue_of};

@@ -10,6 +10,7 @@ ghost use Rattle.ledger.specs.SoundTest.{sound as is_sound};
 ghost use Rattle.stay.specs.Calls.{Follows, PlansOwn, MeasureIs, Kept, Lent, answer_of, or_short};
 ghost use Rattle.stay.specs.Contents.{contents};
 ghost use Rattle.stay.specs.Jobs.{queue_of};
+ghost use Rattle.stay.specs.Tariffs.{charges_by};
 ghost use Rattle.stay.specs.Works.{work_ahead, Placed};
 
 use crate::plan_record::PlanRecord;
@@ -96,8 +97,8 @@ impl Stay {
         measures: &mut [M],
         speeds: &mut [u8; 96],
     ) -> Result<M, Refusal>
-        ensures answer { result ≡ unless_refused (refusal (contents self.now) (planning_call (T.Tariff.charge tariff.now) (order_of M.Measure.laws) M.Measure.mark (length bytes.old) (length measures.old))) Err (Ok (measure_of M.Measure.kind (charges_of (contents self.now) (T.Tariff.charge tariff.now) (plan_for (contents self.now) (T.Tariff.charge tariff.now) (order_of M.Measure.laws))))) }
-        ensures speeds { Placed result self.now.clock self.now.slots (plan_for (contents self.now) (T.Tariff.charge tariff.now) (order_of M.Measure.laws)) speeds.old speeds.new }
+        ensures answer { result ≡ unless_refused (refusal (contents self.now) (planning_call (charges_by T.Tariff.charge T.Tariff.bounded tariff.now) (order_of M.Measure.laws) M.Measure.mark (length bytes.old) (length measures.old))) Err (Ok (measure_of M.Measure.kind (charges_of (contents self.now) (charges_by T.Tariff.charge T.Tariff.bounded tariff.now) (plan_for (contents self.now) (charges_by T.Tariff.charge T.Tariff.bounded tariff.now) (order_of M.Measure.laws))))) }
+        ensures speeds { Placed result self.now.clock self.now.slots (plan_for (contents self.now) (charges_by T.Tariff.charge T.Tariff.bounded tariff.now) (order_of M.Measure.laws)) speeds.old speeds.new }
         ensures bytes { Lent result bytes.old bytes.new }
         ensures measures { Lent result measures.old measures.new }
     {
@@ -125,9 +126,9 @@ impl Stay {
         bytes: &mut [u8],
         measures: &mut [M],
     ) -> Result<(u8, M), Refusal>
-        ensures follows { Follows (contents self.old) (contents self.new) (planning_call (T.Tariff.charge tariff.now) (order_of M.Measure.laws) M.Measure.mark (length bytes.old) (length measures.old)) (answer_of (λ p. planned p.0 (charges_of (contents self.old) (T.Tariff.charge tariff.now) (plan_for (contents self.old) (T.Tariff.charge tariff.now) (order_of M.Measure.laws)))) result) }
-        ensures measure { MeasureIs M.Measure.kind (charges_of (contents self.old) (T.Tariff.charge tariff.now) (plan_for (contents self.old) (T.Tariff.charge tariff.now) (order_of M.Measure.laws))) result }
-        ensures own { PlansOwn M.Measure.kind (T.Tariff.charge tariff.now) M.Measure.mark (contents self.old) (contents self.new) result }
+        ensures follows { Follows (contents self.old) (contents self.new) (planning_call (charges_by T.Tariff.charge T.Tariff.bounded tariff.now) (order_of M.Measure.laws) M.Measure.mark (length bytes.old) (length measures.old)) (answer_of (λ p. planned p.0 (charges_of (contents self.old) (charges_by T.Tariff.charge T.Tariff.bounded tariff.now) (plan_for (contents self.old) (charges_by T.Tariff.charge T.Tariff.bounded tariff.now) (order_of M.Measure.laws)))) result) }
+        ensures measure { MeasureIs M.Measure.kind (charges_of (contents self.old) (charges_by T.Tariff.charge T.Tariff.bounded tariff.now) (plan_for (contents self.old) (charges_by T.Tariff.charge T.Tariff.bounded tariff.now) (order_of M.Measure.laws))) result }
+        ensures own { PlansOwn M.Measure.kind (charges_by T.Tariff.charge T.Tariff.bounded tariff.now) M.Measure.mark (contents self.old) (contents self.new) result }
         ensures kept { Kept result self.old self.new }
         ensures bytes { Lent result bytes.old bytes.new }
         ensures measures { Lent result measures.old measures.new }

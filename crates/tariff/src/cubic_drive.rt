@@ -2,8 +2,7 @@
 ghost use Rattle.std.specs.Prelude.{◌≡◌};
 ghost use Rattle.tariff.specs.Bounds.{cubic_charge};
 ghost use Rattle.tariff.specs.Checks.{coefficients_of, coefficients_within, told, unless_past};
-ghost use Rattle.std.proofs.Common.{arith};
-ghost use Rattle.tariff.specs.Cubic.{linear_part, cube_part};
+ghost use Rattle.tariff.specs.Within.{drive_within};
 
 use super::{Coefficients, Tariff, TariffRefusal};
 
@@ -38,9 +37,7 @@ impl CubicDrive {
 impl Tariff for CubicDrive {
     ghost charge = { λ d k s. cubic_charge d.coefficients.base d.coefficients.linear d.coefficients.cube s };
 
-    ghost bounded = { λ t k s h i.
-        let d = t.coefficients in
-        omega (arith, linear_part d.linear s d.bounded.1 i, cube_part d.cube s d.bounded.2 i, d.bounded.0) };
+    ghost bounded = { λ t k s h i. drive_within t.coefficients.base t.coefficients.linear t.coefficients.cube s t.coefficients.bounded i };
 
     fn charge_for(&self, _slot: u32, speed: u32) -> u32 {
         let s = speed.min(15);

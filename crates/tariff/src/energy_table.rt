@@ -2,7 +2,7 @@
 ghost use Rattle.std.specs.Prelude.{◌≡◌};
 ghost use Rattle.tariff.specs.Bounds.{all_within, energy_bound, table_charge};
 ghost use Rattle.tariff.specs.Checks.{energies_of, told, unless_past};
-ghost use Rattle.std.proofs.Common.{rules};
+ghost use Rattle.tariff.specs.Within.{table_within};
 
 use super::bounds::within;
 use super::{Energies, Tariff, TariffRefusal};
@@ -38,7 +38,7 @@ impl EnergyTable {
 impl Tariff for EnergyTable {
     ghost charge = { λ t. table_charge t.energies.values };
 
-    ghost bounded = { Prim.search rules };
+    ghost bounded = { λ t k s h i. table_within t.energies.values s t.energies.bounded };
 
     fn charge_for(&self, _slot: u32, speed: u32) -> u32 {
         self.energies.values[speed.min(15) as usize]

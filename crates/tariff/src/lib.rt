@@ -23,9 +23,10 @@ pub trait Tariff {
     // the charge by slot and speed
     ghost charge: { Self → ℕ → ℕ → ℕ };
 
+    // no charge of a slot and a speed passes the largest
+    ghost bounded: { (t : Self) (k s : ℕ) → k ≤ last_slot → s ≤ top_speed → charge t k s ≤ largest_charge };
+
     /// The charge of a slot at a speed, each brought into its range first: the slot to 95, the speed to 15.
     fn charge_for(&self, slot: u32, speed: u32) -> u32
         ensures { result ≡ as_read (charge self.now) slot speed };
-
-    ghost bounded: { (t : Self) (k s : ℕ) → k ≤ last_slot → s ≤ top_speed → charge t k s ≤ largest_charge };
 }

@@ -2,7 +2,8 @@
 ghost use Rattle.std.specs.Prelude.{◌≡◌};
 ghost use Rattle.tariff.specs.Bounds.{all_within, price_bound, price_list_charge};
 ghost use Rattle.tariff.specs.Checks.{prices_of, told, unless_past};
-ghost use Rattle.std.proofs.Common.{rules};
+ghost use Rattle.std.specs.Prelude.{slice_index};
+ghost use Rattle.tariff.specs.Within.{priced_within};
 
 use super::bounds::within;
 use super::{Prices, Tariff, TariffRefusal};
@@ -39,7 +40,7 @@ impl<L> PriceList<L> {
 impl<L: Tariff> Tariff for PriceList<L> {
     ghost charge = { λ t. price_list_charge (L.Tariff.charge t.below) t.prices.values };
 
-    ghost bounded = { Prim.search rules };
+    ghost bounded = { λ t k s h i. priced_within (L.Tariff.charge t.below k s) (slice_index t.prices.values k) };
 
     fn charge_for(&self, slot: u32, speed: u32) -> u32 {
         let k = slot.min(95);

@@ -20,4 +20,4 @@ loop-i-preserved g c =
 pub returns : goal.returns
 returns g c i h =
     let e = c.loop-i.invariant.1 i (omega arith) in
-    (e, subst (λ (v : ℕ). v ≤ largest_charge) (sym e) (g.met.T.Tariff.bounded c.args.tariff.now c.args.slot (get_or c.args.speeds.now i 0) c.requires.1.0 (c.requires.1.1 i)))
+    (e, subst (λ (v : ℕ). v ≤ largest_charge) (sym e) (g.T.Tariff.bounded c.args.tariff.now c.args.slot (get_or c.args.speeds.now i 0) c.requires.1.0 (c.requires.1.1 i)))

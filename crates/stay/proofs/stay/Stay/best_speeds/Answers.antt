@@ -6,6 +6,7 @@ use Rattle.measure.specs.Orders.{order_of}
 use Rattle.ledger.specs.Ledger.{slots_left, plan_for}
 use Rattle.stay.specs.Calls.{or_short, Lent}
 use Rattle.stay.specs.Contents.{contents}
+use Rattle.stay.specs.Tariffs.{charges_by}
 use Rattle.stay.specs.Works.{work_ahead, Placed}
 use Rattle.stay.proofs.Ahead.{lent_kept, placed, planned_ahead, stay_answer}
 use Rattle.stay.proofs.Steps.{sound_holds}
@@ -22,7 +23,7 @@ returns g c =
     let w = sound_holds l me.sound in
     let c_in = w.clock_within in
     let s_in = w.slots_within in
-    let t = g.T.Tariff.charge c.args.tariff.now in
+    let t = charges_by g.T.Tariff.charge g.T.Tariff.bounded c.args.tariff.now in
     let laws = g.M.Measure.laws in
     let r = c.plan.result in
     let ws = told_work c.slots_left-left.result me.slots me.clock c.work_ahead-work.result (work_ahead l.queue l.clock (slots_left l)) c.slots_left-left.ensures c.work_ahead-work.ensures in

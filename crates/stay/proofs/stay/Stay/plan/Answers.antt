@@ -3,6 +3,7 @@ use Rattle.std.proofs.lemmas.Result.{err_from_is_err_and}
 use Rattle.measure.specs.Orders.{order_of}
 use Rattle.ledger.specs.Ledger.{planning, refusal}
 use Rattle.stay.specs.Contents.{contents}
+use Rattle.stay.specs.Tariffs.{charges_by}
 use Rattle.stay.proofs.Planned.{planned_sound, planned_follows, planned_own}
 use Rattle.stay.proofs.Ruling.{told_which, told_none}
 use Rattle.stay.proofs.Steps.{refused_follows}
@@ -12,7 +13,7 @@ pub returns-in_err-measure : goal.returns-in_err-measure
 returns-in_err-measure g c =
     let me = c.args.self.now in
     let l = contents me in
-    let call = planning (g.T.Tariff.charge c.args.tariff.now) (order_of g.M.Measure.laws) g.M.Measure.mark (length c.args.bytes.now) (length c.args.measures.now) in
+    let call = planning (charges_by g.T.Tariff.charge g.T.Tariff.bounded c.args.tariff.now) (order_of g.M.Measure.laws) g.M.Measure.mark (length c.args.bytes.now) (length c.args.measures.now) in
     let r = c.in_err-measure.field-0.0 in
     let p = err_from_is_err_and c.from_residual.result c.from_residual.ensures.1 in
     rw (p.1, p.2)
@@ -29,7 +30,7 @@ pub with_plan-requires : goal.with_plan-requires
 with_plan-requires g c =
     let me = c.args.self.now in
     let l = contents me in
-    let t = g.T.Tariff.charge c.args.tariff.now in
+    let t = charges_by g.T.Tariff.charge g.T.Tariff.bounded c.args.tariff.now in
     let laws = g.M.Measure.laws in
     let mark = g.M.Measure.mark in
     let bytes = length c.args.bytes.now in
@@ -42,7 +43,7 @@ returns g c =
     let me = c.args.self.now in
     let l = contents me in
     let n = contents c.with_plan.result in
-    let t = g.T.Tariff.charge c.args.tariff.now in
+    let t = charges_by g.T.Tariff.charge g.T.Tariff.bounded c.args.tariff.now in
     let laws = g.M.Measure.laws in
     let mark = g.M.Measure.mark in
     let bytes = length c.args.bytes.now in
