@@ -1,4 +1,6 @@
 //! Plans the worked stay by energy and prints its page.
+#![tactic(auto)]
+
 ghost use Rattle.std.specs.Prelude.{◌≡◌, Ok};
 ghost use Rattle.tariff.specs.Checks.{energies_of, told};
 ghost use Rattle.pumpplan.specs.declared.Fault.TheVariants.{Tariff as TariffFault, Unplanned as UnplannedFault};

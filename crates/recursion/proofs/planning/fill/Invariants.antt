@@ -1,4 +1,4 @@
-use Rattle.std.proofs.Common.{◌-◌, cond}
+use Rattle.std.proofs.Common.{cond}
 use Rattle.recursion.specs.Work.{pump_of}
 use Rattle.recursion.proofs.Tables.{Filled}
 use Rattle.recursion.proofs.planning.fill.Given as goal

@@ -19,7 +19,7 @@ use contract.Running.{tables, tables_of}
 use sound.WpLaws.{WpFn-mono}
 use types.Kit.{‵, raw, ◌⊛◌, some, later, await, group, ◌$◌, ◌∵◌, !, qed, by, move, keep, use1, use2, drop, split, split3, join, pick, rewrite, fsplit, fsplit3, fjoin, feq_l, feq_i, suffices, frame, done}
 use types.Run.{size_lit, stop, fld, addr, bin, returns, enter}
-use types.ByLocal.{alloc_all, pass_all, free_all, look_at, get, through, sets, env}
+use types.ByLocal.{alloc_all, pass_all, free_all, look_at, get, through, sets}
 use types.Mut.{open_ref}
 use denote.Array.{Array, Array-Lawful}
 use denote.ArrayMemory.{Array-apart, Array-whole}
