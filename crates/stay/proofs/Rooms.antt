@@ -1,11 +1,11 @@
 -- One speed in every slot, slot by slot, and what it tells of room.
-use Rattle.std.proofs.Common.{◌≡◌, ℕ, suc, ◌+◌, ◌-◌, ◌<◌, ◌≤◌, Bool, true, false, ◌&&◌, ltb, leb, List, replicate, sym, ap, ◌∙◌, subst, add-one, arith}
+use Rattle.std.proofs.Common.{◌≡◌, ℕ, suc, ◌+◌, ◌-◌, ◌<◌, ◌≤◌, Bool, true, false, ◌&&◌, ltb, leb, List, replicate, sym, refl, ap, ◌∙◌, subst, add-one, arith}
 use Rattle.std.proofs.lemmas.Bool.{ltb-true, ltb-false, le-leb, lt-leb}
 use Rattle.tariff.specs.Checks.{TestIsExact}
 use Rattle.recursion.specs.Pumps.{Pump, work_after}
 use Rattle.recursion.specs.Speeds.{lawful_speeds}
 use Rattle.ledger.specs.declared.job.Job.{Job}
-use Rattle.ledger.specs.Ledger.{Ledger, no_plan, pump_for, no_charge, keeps_time, top_of, top_throughout}
+use Rattle.ledger.specs.Ledger.{Ledger, no_plan, pump_for, no_charge, keeps_time, top_of, top_throughout, can_be_in_time}
 use Rattle.ledger.proofs.Plans.{sequence_top, top_sequence}
 use Rattle.stay.specs.Room.{Room}
 
@@ -34,3 +34,14 @@ room_by_top slots clock top speeds q r h e is =
     let l : Ledger = record { slots = slots; speeds = speeds; clock = clock; queue = q; standing = no_plan } in
     let same = is ∙ ap (λ (s : ℕ). keeps_time (pump_for speeds q no_charge) clock 0 (replicate (slots - clock) s)) e in
     record { passes = λ p. same ∙ sequence_top l q h p.0 p.1; keeps = λ yes. (top_throughout l, top_sequence l q h (sym same ∙ yes)) }
+
+-- two exact tests of one thing agree
+same_tests : {P : Type 0} (a b : Bool) → TestIsExact P a → TestIsExact P b → a ≡ b
+same_tests true b x y = sym (y.passes (x.keeps refl))
+same_tests false true x y = x.passes (y.keeps refl)
+same_tests false false x y = refl
+
+-- so an exact test for room is the ledger's
+pub room_as_told : (l : Ledger) (q : List Job) (r : Bool) → lawful_speeds l.speeds ≡ true → TestIsExact (Room l.slots l.speeds l.clock q) r → r ≡ can_be_in_time l q
+room_as_told l q r h exact =
+    same_tests r (can_be_in_time l q) exact (room_by_top l.slots l.clock (top_of l.speeds) l.speeds q (can_be_in_time l q) h refl refl)

@@ -2,7 +2,7 @@
 ghost use Rattle.std.specs.Prelude.{◌≡◌, ℕ, ◌+◌, ◌-◌, ◌≤◌, min, List, take, replicate, nat_lt};
 ghost use Rattle.tariff.specs.Checks.{TestIsExact};
 ghost use Rattle.ledger.specs.Queue.{arrived, owed};
-ghost use Rattle.ledger.specs.Ledger.{pump_for, no_charge, keeps_time, top_of};
+ghost use Rattle.ledger.specs.Ledger.{pump_for, no_charge, keeps_time};
 ghost use Rattle.stay.specs.Jobs.{queue_of};
 ghost use Rattle.stay.specs.Room.{Room};
 
@@ -46,8 +46,7 @@ fn keeps_time(table: Table<Job>, slots: u8, clock: u8, speed: u8) -> bool
 /// Whether some sequence of listed speeds is in time for the open jobs, from the clock on.
 pub(crate) fn has_room(table: Table<Job>, slots: u8, speeds: SpeedList, clock: u8) -> bool
     requires { (table.count ≤ 64) × ((clock ≤ slots) × (slots ≤ 96)) }
-    ensures exact { TestIsExact (Room slots (take speeds.count speeds.speeds) clock (queue_of table)) result }
-    ensures told { result ≡ keeps_time (pump_for (take speeds.count speeds.speeds) (queue_of table) no_charge) clock 0 (replicate (slots - clock) (top_of (take speeds.count speeds.speeds))) }
+    ensures { TestIsExact (Room slots (take speeds.count speeds.speeds) clock (queue_of table)) result }
 {
     keeps_time(table, slots, clock, speeds.top())
 }
