@@ -2,35 +2,35 @@
 ghost use Rattle.std.specs.Prelude.{◌≡◌};
 ghost use Rattle.ledger.specs.Refusals.{refusal_number};
 
-/// Why a call on a stay is refused, a case to a rule.
+/// Why a call on a stay is refused: a case to a rule, and the number by which it is known.
 #[derive(Clone, Copy, PartialEq, Eq, Debug)]
 pub enum Refusal {
     /// Opening: the slots are outside 1 to 96.
-    SlotCount,
+    SlotCount = 1,
     /// Opening: the list of speeds is not lawful.
-    SpeedList,
+    SpeedList = 2,
     /// Booking: the number is outside 1 to 999,999.
-    JobNumber,
+    JobNumber = 3,
     /// Booking: the job would start in the past, be due no later than it starts, or be due past the end.
-    JobSlots,
+    JobSlots = 4,
     /// Booking: the work is outside 1 to 600 units.
-    JobWork,
+    JobWork = 5,
     /// Booking: the number is in use.
-    NumberOpen,
+    NumberOpen = 6,
     /// Booking: there would be more than 64 open jobs or 600 units in all.
-    NoRoom,
+    NoRoom = 7,
     /// Booking: the job and an open one would lie one inside the other.
-    Nested,
+    Nested = 8,
     /// Booking: once it is queued, no speeds keep every due slot.
-    NotInTime,
+    NotInTime = 9,
     /// Withdrawing: the number is in no use.
-    NoSuchJob,
+    NoSuchJob = 10,
     /// Planning: too little memory is lent.
-    ShortMemory,
+    ShortMemory = 11,
     /// Running: every slot has been run.
-    StayOver,
+    StayOver = 12,
     /// Running: there is no standing plan.
-    NotPlanned,
+    NotPlanned = 13,
 }
 
 impl Refusal {
@@ -38,20 +38,6 @@ impl Refusal {
     pub fn number(self) -> u8
         ensures { result ≡ refusal_number self }
     {
-        match self {
-            Refusal::SlotCount => 1,
-            Refusal::SpeedList => 2,
-            Refusal::JobNumber => 3,
-            Refusal::JobSlots => 4,
-            Refusal::JobWork => 5,
-            Refusal::NumberOpen => 6,
-            Refusal::NoRoom => 7,
-            Refusal::Nested => 8,
-            Refusal::NotInTime => 9,
-            Refusal::NoSuchJob => 10,
-            Refusal::ShortMemory => 11,
-            Refusal::StayOver => 12,
-            Refusal::NotPlanned => 13,
-        }
+        self as u8
     }
 }

@@ -25,15 +25,11 @@ fn stopped_at(sum: u64) -> Energy
 impl Measure for Energy {
     const MARK: u8 = 1;
 
-    ghost mark = { 1 };
+    ghost MARK = { 1 };
 
     ghost kind = { energy };
 
     ghost laws = { energy_laws };
-
-    fn mark_told() -> u8 {
-        Self::MARK
-    }
 
     fn nought() -> Energy {
         stopped_at(0)

@@ -19,17 +19,13 @@ pub trait Measure: Copy {
     /// The number of this kind of measure, told by the type alone.
     const MARK: u8;
 
-    // the mark, for clauses, which cannot cite a constant
-    ghost mark: { ℕ };
+    // the same number, for clauses
+    ghost MARK: { ℕ };
 
     // nought, the measure of a charge, joining and "not above"
     ghost kind: { Kind Self };
 
     ghost laws: { Laws kind };
-
-    /// The mark, with a contract, which cannot cite the constant: an `impl` answers its `MARK` here.
-    fn mark_told() -> u8
-        ensures { result ≡ mark };
 
     /// The measure of no charges.
     fn nought() -> Self

@@ -16,15 +16,11 @@ impl Peak {
 impl Measure for Peak {
     const MARK: u8 = 2;
 
-    ghost mark = { 2 };
+    ghost MARK = { 2 };
 
     ghost kind = { peak };
 
     ghost laws = { peak_laws };
-
-    fn mark_told() -> u8 {
-        Self::MARK
-    }
 
     fn nought() -> Peak {
         Peak { value: 0 }
@@ -37,10 +33,8 @@ impl Measure for Peak {
     }
 
     fn join(self, other: Peak) -> Peak {
-        if self.value < other.value {
-            other
-        } else {
-            self
+        Peak {
+            value: self.value.max(other.value),
         }
     }
 

@@ -2,14 +2,13 @@
 #![tactic(auto)]
 
 ghost use Rattle.std.specs.Prelude.{◌≡◌, Ok};
-ghost use Rattle.tariff.specs.Checks.{energies_of, told};
-ghost use Rattle.pumpplan.specs.declared.Fault.TheVariants.{Tariff as TariffFault, Unplanned as UnplannedFault};
+ghost use Rattle.tariff.specs.Checks.{told, values_of};
 ghost use Rattle.pumpplan.specs.Worked.{worked_energies, worked_plan};
 
-use anyhow::anyhow;
 use measure::{Energy, Measure};
 use recursion::{SlotWork, Unplanned, plan};
 use tariff::{Energies, EnergyTable, Tariff, TariffRefusal};
+use thiserror::Error;
 
 // Watt-hours of a slot by speed; the pump runs at 0, 1 or 3.
 const ENERGIES: [u32; 16] = [1, 4, 0, 15, 0, 0, 0, 0, 0, 0, 0, 0, 0, 0, 0, 0];
@@ -25,26 +24,12 @@ const WORK: [SlotWork; 4] = [
 ];
 
 /// Why the stay is not planned.
-#[derive(Clone, Copy)]
+#[derive(Clone, Copy, Debug, Error)]
 enum Fault {
-    Tariff(TariffRefusal),
-    Unplanned(Unplanned),
-}
-
-impl From<TariffRefusal> for Fault {
-    ghost from_gives = { λ e r. r ≡ TariffFault e };
-
-    fn from(e: TariffRefusal) -> Fault {
-        Fault::Tariff(e)
-    }
-}
-
-impl From<Unplanned> for Fault {
-    ghost from_gives = { λ e r. r ≡ UnplannedFault e };
-
-    fn from(e: Unplanned) -> Fault {
-        Fault::Unplanned(e)
-    }
+    #[error("an energy passes its bound")]
+    Tariff(#[from] TariffRefusal),
+    #[error("the stay has no plan")]
+    Unplanned(#[from] Unplanned),
 }
 
 /// The speeds of the slots and what they cost.
@@ -56,7 +41,7 @@ struct Plan {
 
 // The tariff of the stay.
 fn worked_energies() -> Result<Energies, Fault>
-    ensures { told energies_of result ≡ Ok worked_energies }
+    ensures { told values_of result ≡ Ok worked_energies }
 {
     Ok(Energies::checked(ENERGIES)?)
 }
@@ -86,12 +71,11 @@ fn worked_plan(table: &EnergyTable) -> Result<Plan, Fault>
 
 fn print_page(rt: &HostRuntime, table: &EnergyTable, plan: &Plan) -> anyhow::Result<()> {
     let mut done = 0u16;
-    for i in 0..4 {
-        let speed = plan.speeds[i];
-        let after = done.saturating_add(speed as u16).min(WORK[i].arrived);
+    for ((slot, speed), work) in (0..4u32).zip(&plan.speeds).zip(&WORK) {
+        let after = done.saturating_add(*speed as u16).min(work.arrived);
         let units = after.saturating_sub(done);
-        let charge = table.charge_for(i as u32, speed as u32);
-        println!(rt; "{i:>4}{speed:>4}{units:>4}{charge:>12}")?;
+        let charge = table.charge_for(slot, *speed as u32);
+        println!(rt; "{slot:>4}{speed:>4}{units:>4}{charge:>12}")?;
         done = after;
     }
     let total = plan.total;
@@ -100,13 +84,8 @@ fn print_page(rt: &HostRuntime, table: &EnergyTable, plan: &Plan) -> anyhow::Res
 }
 
 fn run(rt: &HostRuntime) -> anyhow::Result<()> {
-    let Ok(energies) = worked_energies() else {
-        return Err(anyhow!("the energies pass their bound"));
-    };
-    let table = EnergyTable::new(energies);
-    let Ok(plan) = worked_plan(&table) else {
-        return Err(anyhow!("the stay has no plan"));
-    };
+    let table = EnergyTable::new(worked_energies()?);
+    let plan = worked_plan(&table)?;
     print_page(rt, &table, &plan)
 }
 
@@ -208,8 +187,8 @@ mod tests {
             &mut chosen,
         )?;
         assert_eq!(rt; highest.value(), 15);
-        assert_eq!(rt; Energy::MARK, Energy::mark_told());
-        assert_eq!(rt; Peak::MARK, Peak::mark_told());
+        assert_eq!(rt; Energy::MARK, 1);
+        assert_eq!(rt; Peak::MARK, 2);
         assert_eq!(rt; chosen, [0, 3, 1, 1]);
         let mut prices = [1u32; 96];
         prices[2] = 9;

@@ -97,7 +97,7 @@ impl Stay {
         measures: &mut [M],
         speeds: &mut [u8; 96],
     ) -> Result<M, Refusal>
-        ensures answer { result ≡ unless_refused (refusal (contents self.now) (planning_call (charges_by T.Tariff.charge T.Tariff.bounded tariff.now) (order_of M.Measure.laws) M.Measure.mark (length bytes.old) (length measures.old))) Err (Ok (measure_of M.Measure.kind (charges_of (contents self.now) (charges_by T.Tariff.charge T.Tariff.bounded tariff.now) (plan_for (contents self.now) (charges_by T.Tariff.charge T.Tariff.bounded tariff.now) (order_of M.Measure.laws))))) }
+        ensures answer { result ≡ unless_refused (refusal (contents self.now) (planning_call (charges_by T.Tariff.charge T.Tariff.bounded tariff.now) (order_of M.Measure.laws) M.Measure.MARK (length bytes.old) (length measures.old))) Err (Ok (measure_of M.Measure.kind (charges_of (contents self.now) (charges_by T.Tariff.charge T.Tariff.bounded tariff.now) (plan_for (contents self.now) (charges_by T.Tariff.charge T.Tariff.bounded tariff.now) (order_of M.Measure.laws))))) }
         ensures speeds { Placed result self.now.clock self.now.slots (plan_for (contents self.now) (charges_by T.Tariff.charge T.Tariff.bounded tariff.now) (order_of M.Measure.laws)) speeds.old speeds.new }
         ensures bytes { Lent result bytes.old bytes.new }
         ensures measures { Lent result measures.old measures.new }
@@ -126,16 +126,16 @@ impl Stay {
         bytes: &mut [u8],
         measures: &mut [M],
     ) -> Result<(u8, M), Refusal>
-        ensures follows { Follows (contents self.old) (contents self.new) (planning_call (charges_by T.Tariff.charge T.Tariff.bounded tariff.now) (order_of M.Measure.laws) M.Measure.mark (length bytes.old) (length measures.old)) (answer_of (λ p. planned p.0 (charges_of (contents self.old) (charges_by T.Tariff.charge T.Tariff.bounded tariff.now) (plan_for (contents self.old) (charges_by T.Tariff.charge T.Tariff.bounded tariff.now) (order_of M.Measure.laws)))) result) }
+        ensures follows { Follows (contents self.old) (contents self.new) (planning_call (charges_by T.Tariff.charge T.Tariff.bounded tariff.now) (order_of M.Measure.laws) M.Measure.MARK (length bytes.old) (length measures.old)) (answer_of (λ p. planned p.0 (charges_of (contents self.old) (charges_by T.Tariff.charge T.Tariff.bounded tariff.now) (plan_for (contents self.old) (charges_by T.Tariff.charge T.Tariff.bounded tariff.now) (order_of M.Measure.laws)))) result) }
         ensures measure { MeasureIs M.Measure.kind (charges_of (contents self.old) (charges_by T.Tariff.charge T.Tariff.bounded tariff.now) (plan_for (contents self.old) (charges_by T.Tariff.charge T.Tariff.bounded tariff.now) (order_of M.Measure.laws))) result }
-        ensures own { PlansOwn M.Measure.kind (charges_by T.Tariff.charge T.Tariff.bounded tariff.now) M.Measure.mark (contents self.old) (contents self.new) result }
+        ensures own { PlansOwn M.Measure.kind (charges_by T.Tariff.charge T.Tariff.bounded tariff.now) M.Measure.MARK (contents self.old) (contents self.new) result }
         ensures kept { Kept result self.old self.new }
         ensures bytes { Lent result bytes.old bytes.new }
         ensures measures { Lent result measures.old measures.new }
     {
         let mut speeds = [0; 96];
         let measure = self.best_speeds(tariff, bytes, measures, &mut speeds)?;
-        *self = self.with_plan(M::mark_told(), speeds);
+        *self = self.with_plan(M::MARK, speeds);
         Ok((self.slots_left(), measure))
     }
 }

@@ -1,7 +1,6 @@
 -- The test of a list against a bound, and its step in a loop.
-use Rattle.std.proofs.Common.{◌≡◌, ℕ, zero, suc, ◌+◌, ◌<◌, ◌≤◌, Bool, true, false, ◌&&◌, leb, List, [], ◌∷◌, length, get_or, drop, sym, refl, ap, ◌∙◌, arith}
-use Rattle.std.proofs.lemmas.List.{at_drop_more, at_drop_all}
-use Rattle.std.proofs.lemmas.Bool.{leb-true, le-leb, lt-leb, and_parts, and_from}
+use Rattle.std.proofs.Common.{◌≡◌, ℕ, zero, suc, true, ◌&&◌, leb, List, [], ◌∷◌, refl, arith}
+use Rattle.std.proofs.lemmas.Bool.{leb-true, le-leb, and_parts, and_from}
 use Rattle.tariff.specs.Bounds.{all_within, EachWithin, CoefficientsWithin, base_bound, linear_bound, cube_bound}
 use Rattle.tariff.specs.Checks.{TestIsExact, coefficients_within}
 
@@ -26,14 +25,3 @@ coefficients_exact base linear cube =
       passes = λ h. and_from b (l && c) (le-leb base base_bound h.0) (and_from l c (le-leb linear linear_bound h.1) (le-leb cube cube_bound h.2));
       keeps = λ t. let p = and_parts b (l && c) t in let r = and_parts l c p.1 in (leb-true base base_bound p.0, leb-true linear linear_bound r.0, leb-true cube cube_bound r.1);
     }
-
-pub within_step : (bound : ℕ) (xs : List ℕ) (i : ℕ) → i < length xs → get_or xs i 0 ≤ bound → all_within bound (drop (i + 1) xs) ≡ all_within bound (drop i xs)
-within_step bound xs i h le =
-    sym (at_drop_more (all_within bound) xs i 0 h ∙ ap (λ (b : Bool). b && all_within bound (drop (i + 1) xs)) (le-leb (get_or xs i 0) bound le))
-
-pub within_stop : (bound : ℕ) (xs : List ℕ) (i : ℕ) → i < length xs → bound < get_or xs i 0 → all_within bound (drop i xs) ≡ false
-within_stop bound xs i h lt =
-    at_drop_more (all_within bound) xs i 0 h ∙ ap (λ (b : Bool). b && all_within bound (drop (i + 1) xs)) (lt-leb (get_or xs i 0) bound lt)
-
-pub within_end : (bound : ℕ) (xs : List ℕ) (i : ℕ) → length xs ≤ i → all_within bound (drop i xs) ≡ true
-within_end bound xs i h = at_drop_all (all_within bound) xs i h

@@ -1,5 +1,6 @@
 -- Words: within a bound, the bounds of what a tariff is made from, what each tariff charges in slot k at speed s.
-use Rattle.std.specs.Prelude.{ℕ, ◌+◌, ◌*◌, ◌≤◌, min, Bool, true, ◌&&◌, List, [], ◌∷◌, nat_le, slice_index}
+use Rattle.std.specs.Prelude.{ℕ, ◌+◌, ◌*◌, ◌≤◌, min, Bool, List, nat_le, slice_index}
+use Rattle.std.specs.List.{list_all}
 use Rattle.tariff.specs.Charges.{largest_charge}
 
 -- watt-hours of one slot at one speed
@@ -20,8 +21,7 @@ price_bound = 1000
 
 -- no number of the list passes the bound
 abbrev pub all_within : ℕ → List ℕ → Bool
-all_within bound [] = true
-all_within bound (x ∷ xs) = nat_le x bound && all_within bound xs
+all_within bound xs = list_all (λ x. nat_le x bound) xs
 
 -- the same, number by number
 abbrev pub EachWithin : ℕ → List ℕ → Type 0

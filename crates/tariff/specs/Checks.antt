@@ -1,8 +1,7 @@
 -- Words: the refusal of a check and its number, what a check answers.
 use Rattle.std.specs.Prelude.{◌≡◌, ℕ, Bool, true, cond, ◌&&◌, List, Ok, Err, Result, nat_le}
 use Rattle.tariff.specs.declared.checked.Coefficients.{Coefficients}
-use Rattle.tariff.specs.declared.checked.Energies.{Energies}
-use Rattle.tariff.specs.declared.checked.Prices.{Prices}
+use Rattle.tariff.specs.declared.checked.Bounded.{Bounded}
 use Rattle.tariff.specs.declared.refusal.TariffRefusal.{TariffRefusal}
 use Rattle.tariff.specs.declared.refusal.TariffRefusal.TheVariants.{PastBound}
 use Rattle.tariff.specs.Bounds.{base_bound, linear_bound, cube_bound}
@@ -15,14 +14,11 @@ abbrev pub told : {X Y E : Type 0} → (X → Y) → Result X E → Result Y E
 told f (Ok x) = Ok (f x)
 told f (Err e) = Err e
 
-abbrev pub energies_of : Energies → List ℕ
-energies_of e = e.values
+abbrev pub values_of : {N BOUND : ℕ} → Bounded N BOUND → List ℕ
+values_of b = b.values
 
 abbrev pub coefficients_of : Coefficients → ℕ × ℕ × ℕ
 coefficients_of c = (c.base, c.linear, c.cube)
-
-abbrev pub prices_of : Prices → List ℕ
-prices_of p = p.values
 
 abbrev pub coefficients_within : ℕ → ℕ → ℕ → Bool
 coefficients_within base linear cube = nat_le base base_bound && (nat_le linear linear_bound && nat_le cube cube_bound)

@@ -1,18 +1,28 @@
-// The test that every check of a list stands on.
+// The check of a list of numbers against their bound.
 ghost use Rattle.std.specs.Prelude.{◌≡◌, ℕ, List};
 ghost use Rattle.tariff.specs.Bounds.{all_within, EachWithin, CoefficientsWithin};
-ghost use Rattle.tariff.specs.Checks.{TestIsExact, coefficients_within};
+ghost use Rattle.tariff.specs.Checks.{TestIsExact, coefficients_within, told, unless_past, values_of};
+
+use super::{Bounded, TariffRefusal};
 
 // Whether no number passes the bound.
-pub(crate) fn within(numbers: &[u32], bound: u32) -> bool
+fn within(numbers: &[u32], bound: u32) -> bool
     ensures { result ≡ all_within bound numbers.now }
 {
-    for x in numbers {
-        if *x > bound {
-            return false;
+    numbers.iter().all(|x| *x <= bound)
+}
+
+impl<const N: usize, const BOUND: u32> Bounded<N, BOUND> {
+    /// The numbers, refused if one passes the bound.
+    pub fn checked(values: [u32; N]) -> Result<Self, TariffRefusal>
+        ensures { told values_of result ≡ unless_past (all_within BOUND values.entry) values.entry }
+    {
+        if within(&values, BOUND) {
+            Ok(Bounded { values })
+        } else {
+            Err(TariffRefusal::PastBound)
         }
     }
-    true
 }
 
 /// The laws behind the checks: a test passes exactly if each number keeps its bound.

@@ -1,12 +1,19 @@
 // What the tariffs are made from, each kept within its bounds by its type.
-ghost use Rattle.tariff.specs.Bounds.{EachWithin, CoefficientsWithin, energy_bound, price_bound};
+ghost use Rattle.std.specs.Prelude.{◌≡◌};
+ghost use Rattle.tariff.specs.Bounds.{EachWithin, CoefficientsWithin};
+
+/// `N` numbers, none of which passes `BOUND`.
+#[derive(Clone, Copy)]
+pub struct Bounded<const N: usize, const BOUND: u32> {
+    pub(crate) values: [u32; N],
+    ghost bounded: { EachWithin BOUND values },
+}
 
 /// Watt-hours of one slot, for each speed 0 to 15.
-#[derive(Clone, Copy)]
-pub struct Energies {
-    pub(crate) values: [u32; 16],
-    ghost bounded: { EachWithin energy_bound values },
-}
+pub type Energies = Bounded<16, 1_000_000>;
+
+/// A price for each slot 0 to 95.
+pub type Prices = Bounded<96, 1_000>;
 
 /// The three coefficients of a cubic drive.
 #[derive(Clone, Copy)]
@@ -15,11 +22,4 @@ pub struct Coefficients {
     pub(crate) linear: u32,
     pub(crate) cube: u32,
     ghost bounded: { CoefficientsWithin base linear cube },
-}
-
-/// A price for each slot 0 to 95.
-#[derive(Clone, Copy)]
-pub struct Prices {
-    pub(crate) values: [u32; 96],
-    ghost bounded: { EachWithin price_bound values },
 }

@@ -1,24 +1,9 @@
 // The energy table: the charge is the energy of the speed, in every slot.
 ghost use Rattle.std.specs.Prelude.{◌≡◌};
-ghost use Rattle.tariff.specs.Bounds.{all_within, energy_bound, table_charge};
-ghost use Rattle.tariff.specs.Checks.{energies_of, told, unless_past};
+ghost use Rattle.tariff.specs.Bounds.{table_charge};
 ghost use Rattle.tariff.specs.Within.{table_within};
 
-use super::bounds::within;
-use super::{Energies, Tariff, TariffRefusal};
-
-impl Energies {
-    /// The energies, refused if one passes 1,000,000.
-    pub fn checked(values: [u32; 16]) -> Result<Self, TariffRefusal>
-        ensures { told energies_of result ≡ unless_past (all_within energy_bound values) values }
-    {
-        if within(&values, 1_000_000) {
-            Ok(Energies { values })
-        } else {
-            Err(TariffRefusal::PastBound)
-        }
-    }
-}
+use super::{Energies, Tariff};
 
 /// A tariff that charges each speed its energy.
 #[derive(Clone, Copy)]

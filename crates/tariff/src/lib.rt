@@ -12,7 +12,7 @@ mod price_list;
 mod refusal;
 
 pub use bounds::bounds_are_tested_exactly;
-pub use checked::{Coefficients, Energies, Prices};
+pub use checked::{Bounded, Coefficients, Energies, Prices};
 pub use cubic_drive::CubicDrive;
 pub use energy_table::EnergyTable;
 pub use price_list::PriceList;

@@ -1,25 +1,10 @@
 // The price list: the amount of the tariff below times the price of the slot.
 ghost use Rattle.std.specs.Prelude.{◌≡◌};
-ghost use Rattle.tariff.specs.Bounds.{all_within, price_bound, price_list_charge};
-ghost use Rattle.tariff.specs.Checks.{prices_of, told, unless_past};
+ghost use Rattle.tariff.specs.Bounds.{price_list_charge};
 ghost use Rattle.std.specs.Prelude.{slice_index};
 ghost use Rattle.tariff.specs.Within.{priced_within};
 
-use super::bounds::within;
-use super::{Prices, Tariff, TariffRefusal};
-
-impl Prices {
-    /// The prices, refused if one passes 1,000. No tariff is handed in, so none can be lost by a refusal.
-    pub fn checked(values: [u32; 96]) -> Result<Self, TariffRefusal>
-        ensures { told prices_of result ≡ unless_past (all_within price_bound values) values }
-    {
-        if within(&values, 1_000) {
-            Ok(Prices { values })
-        } else {
-            Err(TariffRefusal::PastBound)
-        }
-    }
-}
+use super::{Prices, Tariff};
 
 /// A tariff over another: each slot at its price.
 #[derive(Drop)]
@@ -45,10 +30,6 @@ impl<L: Tariff> Tariff for PriceList<L> {
     fn charge_for(&self, slot: u32, speed: u32) -> u32 {
         let k = slot.min(95);
         let amount = self.below.charge_for(k, speed) as u64 * self.prices.values[k as usize] as u64;
-        if amount < 1_000_000_000 {
-            amount as u32
-        } else {
-            1_000_000_000
-        }
+        amount.min(1_000_000_000) as u32
     }
 }

@@ -2,11 +2,11 @@
 ghost use Rattle.std.specs.Prelude.{◌≡◌};
 ghost use Rattle.tariff.specs.Checks.{refusal_number};
 
-/// Why a tariff is not made.
+/// Why a tariff is not made. Each case has the number by which it is known.
 #[derive(Clone, Copy, PartialEq, Eq, Debug)]
 pub enum TariffRefusal {
     /// One of the numbers is above its bound.
-    PastBound,
+    PastBound = 14,
 }
 
 impl TariffRefusal {
@@ -14,8 +14,6 @@ impl TariffRefusal {
     pub fn number(self) -> u8
         ensures { result ≡ refusal_number self }
     {
-        match self {
-            TariffRefusal::PastBound => 14,
-        }
+        self as u8
     }
 }

@@ -30,7 +30,7 @@ returns g c =
     let n : length c.args.speeds.now ≡ 96 = search rules in
     record {
       answer = c.or_short.ensures ∙ ap or_short c.plan.ensures.answer
-          ∙ stay_answer laws l t w (length c.args.bytes.now) (length c.args.measures.now) g.M.Measure.mark _ _ _ c.listed.ensures ws (search rules);
+          ∙ stay_answer laws l t w (length c.args.bytes.now) (length c.args.measures.now) g.M.Measure.MARK _ _ _ c.listed.ensures ws (search rules);
       speeds = subst (λ v. Placed v me.clock me.slots (plan_for l t (order_of laws)) c.args.speeds.now (put_mid me.clock (me.slots - me.clock) c.args.speeds.now c.plan.new.chosen)) (sym c.or_short.ensures)
           (placed r me.clock me.slots c.args.speeds.now c.plan.new.chosen (plan_for l t (order_of laws)) (omega arith) (search rules)
           (c.plan.ensures.chosen ∙ ap (λ (v : List ℕ). places_after r v (mid_of me.clock (me.slots - me.clock) c.args.speeds.now)) (planned_ahead laws l t w _ _ c.listed.ensures ws)));
