@@ -39,6 +39,7 @@ impl Tariff for CubicDrive {
 
     ghost bounded = { λ t k s h i. drive_within t.coefficients.base t.coefficients.linear t.coefficients.cube s t.coefficients.bounded i };
 
+    #[tactic(auto, using(crate::specs::Cubic::linear_part, crate::specs::Cubic::cube_part))]
     fn charge_for(&self, _slot: u32, speed: u32) -> u32 {
         let s = speed.min(15);
         let c = self.coefficients;
