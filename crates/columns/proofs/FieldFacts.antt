@@ -1,22 +1,22 @@
 -- How loops over a field's bytes come to its value.
-use Rattle.std.proofs.Common.{◌≡◌, ℕ, ◌+◌, ◌-◌, ◌*◌, ◌^◌, ◌<◌, ◌≤◌, Bool, true, false, cond, ◌⊎◌, List, [], ◌∷◌, ◌++◌, length, get_or, take, drop, set, None, Ok, Err, Result, sym, refl, ap, ◌∙◌, pow-suc, add-one, arith, eq-eqb, ne_eqb}
+use Rattle.std.proofs.Common.{◌≡◌, ℕ, suc, ◌+◌, ◌-◌, ◌*◌, ◌^◌, ◌<◌, ◌≤◌, Bool, true, false, cond, not, eqb, ◌⊎◌, List, [], ◌∷◌, ◌++◌, length, get_or, take, drop, set, None, Ok, Err, Result, sym, refl, ap, ◌∙◌, pow-suc, add-one, arith}
 use native.Mathlib.Nat.{pow-le-pow_right}
-use Rattle.std.proofs.lemmas.List.{append_assoc, append-nil, at_drop_all, at_drop_more, drop_more, take_all, take_more_set, take_rest}
+use Rattle.std.proofs.lemmas.List.{append_assoc, append-nil, at_drop_all, at_drop_more, take_all, take_more_set, take_rest}
 use Rattle.std.proofs.lemmas.Bool.Decides.{nat_tests}
+use Rattle.std.specs.List.{position_or_len}
 use Rattle.columns.specs.Fields.{blank, is_digit, after_blanks, digits_behind, starts_well, numeral, field_value, field_at, followed_by, fields_from}
 use Rattle.columns.specs.declared.faults.FieldFault.{FieldFault}
 
--- a loop over blanks goes on, and stops
-pub blank_step : (s : List ℕ) (i : ℕ) → i < length s → get_or s i 0 ≡ blank → after_blanks (drop i s) ≡ after_blanks (drop (i + 1) s)
-blank_step s i h e =
-    at_drop_more after_blanks s i 0 h
-    ∙ ap (λ (v : Bool). cond v (after_blanks (drop (i + 1) s)) (get_or s i 0 ∷ drop (i + 1) s)) (eq-eqb (get_or s i 0) blank e)
-
-pub blank_stop : (s : List ℕ) (i : ℕ) → i < length s → (get_or s i 0 ≡ blank → ⊥) → after_blanks (drop i s) ≡ drop i s
-blank_stop s i h ne =
-    at_drop_more after_blanks s i 0 h
-    ∙ (ap (λ (v : Bool). cond v (after_blanks (drop (i + 1) s)) (get_or s i 0 ∷ drop (i + 1) s)) (ne_eqb (get_or s i 0) blank ne)
-    ∙ sym (drop_more s i 0 h))
+-- what stands behind the blanks starts at the first byte that is none
+pub blanks_end : (s : List ℕ) → drop (position_or_len (λ b. not (eqb b blank)) s) s ≡ after_blanks s
+blanks_end [] = refl
+blanks_end (b ∷ bs) =
+    elim (eqb b blank)
+    as (λ v. drop (cond (not (not v)) (1 + position_or_len (λ x. not (eqb x blank)) bs) 0) (b ∷ bs) ≡ cond v (after_blanks bs) (b ∷ bs)) [
+      | true ↦ (let e : 1 + position_or_len (λ x. not (eqb x blank)) bs ≡ suc (position_or_len (λ x. not (eqb x blank)) bs) = omega arith in
+          ap (λ (k : ℕ). drop k (b ∷ bs)) e ∙ blanks_end bs)
+      | false ↦ refl
+    ]
 
 -- a loop over digits goes on, and stops
 pub digit_step : (n : ℕ) (s : List ℕ) (i : ℕ) → i < length s → 48 ≤ get_or s i 0 → get_or s i 0 ≤ 57 → digits_behind n (drop i s) ≡ digits_behind (n * 10 + (get_or s i 0 - 48)) (drop (i + 1) s)

@@ -1,6 +1,9 @@
 -- How the lines of a list follow from its first line and what stands behind that.
-use Rattle.std.proofs.Common.{◌≡◌, ℕ, suc, ◌+◌, ◌-◌, ◌<◌, ◌≤◌, Bool, true, false, cond, eqb, List, [], ◌∷◌, length, get_or, take, drop, sym, refl, ap, ◌∙◌, arith, eq-eqb, ne_eqb}
-use Rattle.std.proofs.lemmas.List.{at_drop_more, at_drop_all, drop_all, drop-drop, get_or-drop, take_rest, length-drop}
+use Rattle.std.proofs.Common.{◌≡◌, ℕ, suc, ◌+◌, ◌-◌, ◌<◌, ◌≤◌, min, Bool, true, false, cond, eqb, List, [], ◌∷◌, length, get_or, take, drop, sym, refl, ap, ◌∙◌, arith}
+use Rattle.std.proofs.lemmas.List.{drop_min, drop-drop, get_or-drop, take_rest, length-drop}
+use Rattle.std.proofs.lemmas.List.Recursion.{is_position_or_len}
+use Rattle.std.proofs.lemmas.Bool.Decides.{nat_tests}
+use Rattle.std.specs.List.{position_or_len}
 use Rattle.columns.specs.Lines.{newline, in_front, lines, first_line}
 
 -- the bytes behind the first newline
@@ -26,10 +29,6 @@ behind_dropped (b ∷ bs) =
     elim (eqb b newline) as (λ v. drop (length (cond v [] (b ∷ first_line bs))) bs ≡ cond v bs (behind_first bs))
     [ true ↦ refl | false ↦ behind_dropped bs ]
 
--- nothing stands behind a first line that takes all
-behind_none : (s : List ℕ) → length s ≤ length (first_line s) → behind_first s ≡ []
-behind_none s h = sym (behind_dropped s) ∙ drop_all (suc (length (first_line s))) s (omega arith)
-
 -- where there are bytes, the lines are the first and those behind it
 pub lines_first : (s : List ℕ) → 0 < length s → lines s ≡ first_line s ∷ lines (behind_first s)
 lines_first [] h = absurd (omega arith)
@@ -43,53 +42,55 @@ lines_first (b ∷ (c ∷ cs)) h =
     as (λ v. cond v ([] ∷ lines bs) (in_front b (lines bs)) ≡ cond v [] (b ∷ first_line bs) ∷ lines (cond v bs (behind_first bs)))
     [ true ↦ refl | false ↦ ap (in_front b) ind ]
 
--- a reader that has given `k` lines, and gives one more: `line`, between `from` and `to`
-pub lines_more : (s line : List ℕ) (from to k : ℕ) → from < length s → lines (drop from s) ≡ drop k (lines s) → line ≡ first_line (drop from s) → drop to s ≡ behind_first (drop from s)
-    → (lines (drop from s) ≡ line ∷ lines (drop to s)) × (lines (drop to s) ≡ drop (k + 1) (lines s)) × (line ≡ get_or (lines s) k [])
-lines_more s line from to k h e f g =
-    let here : lines (drop from s) ≡ line ∷ lines (drop to s) =
-    lines_first (drop from s) (omega (arith, length-drop from s))
-    ∙ (ap (λ (l : List ℕ). l ∷ lines (behind_first (drop from s))) (sym f) ∙ ap (λ (t : List ℕ). line ∷ lines t) (sym g)) in
-    let n : k + 0 ≡ k = omega arith in (
-      here,
-      ap (drop 1) (sym here ∙ e) ∙ drop-drop 1 k (lines s),
-      ap (λ (ls : List (List ℕ)). get_or ls 0 []) (sym here ∙ e) ∙ (get_or-drop k (lines s) 0 [] ∙ ap (λ (j : ℕ). get_or (lines s) j []) n),
-    )
+-- the first line is as long as the first newline is far
+pub length_first : (s : List ℕ) → length (first_line s) ≡ position_or_len (λ b. eqb b newline) s
+length_first =
+    is_position_or_len (λ l. length (first_line l)) (λ b. eqb b newline) refl
+    (λ b bs. elim (eqb b newline) as (λ v. length (cond v [] (b ∷ first_line bs)) ≡ cond v 0 (1 + length (first_line bs))) [ true ↦ refl | false ↦ omega arith ])
 
--- a loop that looks for the first newline: it goes on, it stops, it runs out
-pub first_step : (s : List ℕ) (i : ℕ) → i < length s → (get_or s i 0 ≡ newline → ⊥) → length (first_line (drop i s)) ≡ suc (length (first_line (drop (i + 1) s)))
-first_step s i h ne =
-    at_drop_more (λ l. length (first_line l)) s i 0 h
-    ∙ ap (λ (v : Bool). length (cond v [] (get_or s i 0 ∷ first_line (drop (i + 1) s)))) (ne_eqb (get_or s i 0) newline ne)
+-- A reader at `from` has given so many lines, and gives one more: `line`. Then it is at `to`.
+pub record GivesOne (s : List ℕ) (from given : ℕ) (line : List ℕ) (to : ℕ) : Type 0 where
+  pub inside : to ≤ length s
+  pub counted : given + 1 ≤ to
+  pub ordered : lines (drop to s) ≡ drop (given + 1) (lines s)
+  pub left : lines (drop from s) ≡ line ∷ lines (drop to s)
+  pub numbered : line ≡ get_or (lines s) given []
 
-pub first_stop : (s : List ℕ) (i : ℕ) → i < length s → get_or s i 0 ≡ newline → length (first_line (drop i s)) ≡ 0
-first_stop s i h e =
-    at_drop_more (λ l. length (first_line l)) s i 0 h
-    ∙ ap (λ (v : Bool). length (cond v [] (get_or s i 0 ∷ first_line (drop (i + 1) s)))) (eq-eqb (get_or s i 0) newline e)
-
-pub first_out : (s : List ℕ) (i : ℕ) → length s ≤ i → length (first_line (drop i s)) ≡ 0
-first_out s i h = at_drop_all (λ l. length (first_line l)) s i h
-
--- A line read at `from`: `rest` is what the checker has for `&bytes[from..]`, and `n` the length of its first line.
+-- `rest` is what the checker has for `&bytes[from..]`, and `width` the length of its first line
 abbrev pub rest : List ℕ → ℕ → List ℕ
 rest s from = take (length s - from) (drop from s)
 
-module _ (s : List ℕ) (from n : ℕ) (e : n ≡ length (first_line (rest s from))) where
-  first_length : n ≡ length (first_line (drop from s))
+module _ (s : List ℕ) (from width : ℕ) (e : width ≡ length (first_line (rest s from))) where
+  first_length : width ≡ length (first_line (drop from s))
   first_length = e ∙ ap (λ (l : List ℕ). length (first_line l)) (take_rest s from)
 
-  pub read_line : take (n - 0) (rest s from) ≡ first_line (drop from s)
-  read_line =
-      let z : n - 0 ≡ length (first_line (drop from s)) = omega (arith, first_length) in
-      ap (take (n - 0)) (take_rest s from) ∙ (ap (λ (m : ℕ). take m (drop from s)) z ∙ first_taken (drop from s))
+  pub read_within : from ≤ length s → from + width ≤ length s
+  read_within h = omega (arith, first_length, first_within (drop from s), length-drop from s)
+
+  read_line : take width (rest s from) ≡ first_line (drop from s)
+  read_line = ap (take width) (take_rest s from) ∙ (ap (λ (m : ℕ). take m (drop from s)) first_length ∙ first_taken (drop from s))
 
   -- the place moves behind the newline, or to the end where there is none
-  pub read_rest : drop (from + n + 1) s ≡ behind_first (drop from s)
+  read_rest : drop (min (from + width + 1) (length s)) s ≡ behind_first (drop from s)
   read_rest =
-      let z : from + n + 1 ≡ from + suc (length (first_line (drop from s))) = omega (arith, first_length) in
-      ap (λ (m : ℕ). drop m s) z ∙ (sym (drop-drop (suc (length (first_line (drop from s)))) from s) ∙ behind_dropped (drop from s))
+      let z : from + width + 1 ≡ from + suc (length (first_line (drop from s))) = omega (arith, first_length) in
+      drop_min (from + width + 1) s
+      ∙ (ap (λ (m : ℕ). drop m s) z ∙ (sym (drop-drop (suc (length (first_line (drop from s)))) from s) ∙ behind_dropped (drop from s)))
 
-  pub read_all : length s - from ≤ n → drop (length s) s ≡ behind_first (drop from s)
-  read_all h =
-      drop_all (length s) s (omega arith)
-      ∙ sym (behind_none (drop from s) (omega (arith, first_length, length-drop from s)))
+  pub read_one : (given to : ℕ) (done : Bool) → done ≡ eqb (length (rest s from)) 0 → done ≡ false
+      → given ≤ from → lines (drop from s) ≡ drop given (lines s) → to ≡ min (from + width + 1) (length s) → GivesOne s from given (take width (rest s from)) to
+  read_one given to done d some counted ordered t =
+      let long = ap length (take_rest s from) in
+      let here : from < length s = grind (arith, nat_tests, length-drop) in
+      let left : lines (drop from s) ≡ take width (rest s from) ∷ lines (drop to s) =
+      lines_first (drop from s) (omega (arith, length-drop from s))
+      ∙ (ap (λ (l : List ℕ). l ∷ lines (behind_first (drop from s))) (sym read_line)
+      ∙ ap (λ (l : List ℕ). take width (rest s from) ∷ lines l) (sym (ap (λ (k : ℕ). drop k s) t ∙ read_rest))) in
+      let n : given + 0 ≡ given = omega arith in
+      record {
+        inside = omega arith;
+        counted = omega arith;
+        ordered = ap (drop 1) (sym left ∙ ordered) ∙ drop-drop 1 given (lines s);
+        left = left;
+        numbered = ap (λ (ls : List (List ℕ)). get_or ls 0 []) (sym left ∙ ordered) ∙ (get_or-drop given (lines s) 0 [] ∙ ap (λ (j : ℕ). get_or (lines s) j []) n);
+      }

@@ -1,109 +1,52 @@
 -- How the digits of a number are found from its end.
-use Rattle.std.proofs.Common.{◌≡◌, ℕ, ◌+◌, ◌-◌, ◌/◌, ◌%◌, ◌^◌, ◌<◌, ◌≤◌, Bool, true, cond, eqb, List, [], ◌∷◌, ◌++◌, length, take, drop, set, replicate, decimal, sym, ap, ◌∙◌, ⊎_elim, arith, eq-eqb, ne_eqb}
+use Rattle.std.proofs.Common.{◌≡◌, ℕ, zero, suc, ◌+◌, ◌-◌, ◌*◌, ◌/◌, ◌%◌, ◌^◌, ◌<◌, ◌≤◌, Bool, true, cond, List, [], ◌∷◌, ◌++◌, length, take, drop, replicate, decimal, Option, Some, None, IfSome, IfNone, unwrap_or, sym, ap, ◌∙◌, ⊎_elim, arith, add-one, pow-suc}
+use native.Mathlib.Nat.{pow-le-pow_right}
 use borrow.Rule.Slice.PartMut.{put_mid}
-use Rattle.std.proofs.lemmas.Fmt.{decimal_digit, decimal_step, length-decimal-le}
-use Rattle.std.proofs.lemmas.List.{append_assoc, append-nil, drop_all, drop_at, drop-drop, drop-set, length-append, length-drop, length_push, length-replicate, length-take-le, nil_from_length, replicate_more, take_at}
+use Rattle.std.proofs.lemmas.Fmt.{decimal_by_steps, decimal_digit, length-decimal-le}
+use Rattle.std.proofs.lemmas.List.{append_assoc, append-nil, drop_all, drop_at, drop-drop, length-append, length-drop, length_push, length-replicate, length-take-le, take_at}
 use Rattle.std.proofs.lemmas.Bool.Decides.{nat_tests}
-use Rattle.std.proofs.lemmas.Bool.{cases_eq, cases_lt}
+use Rattle.std.proofs.lemmas.Bool.{cases_lt}
 use Rattle.columns.specs.Fields.{blank}
-use Rattle.columns.specs.Numbers.{padded, justified, fits, written}
+use Rattle.columns.specs.Numbers.{justified, fits, written}
 
--- the digits of what is left of a number: none once nothing is left
-abbrev pub left_digits : ℕ → List ℕ
-left_digits v = cond (eqb v 0) [] (decimal v)
+-- a number has as many digits as the power of ten above it has zeros
+below_power : (n : ℕ) → n < 2 ^ 64 → n < 10 ^ length (decimal n)
+below_power = decimal_by_steps (λ n ds. n < 10 ^ length ds) (λ n small. omega arith)
+    (λ n ds large ih. rw (length_push ds (48 + n % 10), add-one, pow-suc) (omega (arith, ih)))
 
--- the byte before those that are written
-abbrev pub column_of : ℕ → ℕ
-column_of v = cond (eqb v 0) blank (48 + v % 10)
-
-pub left_none : (v : ℕ) → v ≡ 0 → left_digits v ≡ []
-left_none v e = ap (λ (b : Bool). cond b [] (decimal v)) (eq-eqb v 0 e)
-
-left_some : (v : ℕ) → (v ≡ 0 → ⊥) → left_digits v ≡ decimal v
-left_some v ne = ap (λ (b : Bool). cond b [] (decimal v)) (ne_eqb v 0 ne)
-
--- the last digit, and those before it
-pub decimal_last : (v : ℕ) → v < 2 ^ 64 → decimal v ≡ left_digits (v / 10) ++ ((48 + v % 10) ∷ [])
-decimal_last v h =
+pub length_from_power : (k n : ℕ) → 10 ^ k ≤ n → n < 10 * 10 ^ k → n < 2 ^ 64 → length (decimal n) ≡ k + 1
+length_from_power k n lo hi h =
+    let above : n < 10 ^ (k + 1) = rw (add-one, pow-suc) (omega arith) in
+    let most = length-decimal-le (k + 1) n (omega arith) above h in
     ⊎_elim
-    (λ (small : v < 10).
-    let z : v / 10 ≡ 0 = omega arith in
-    let m : v ≡ v % 10 = omega arith in
-    decimal_digit v small
-    ∙ (ap (λ (n : ℕ). (48 + n) ∷ []) m ∙ ap (λ (ds : List ℕ). ds ++ ((48 + v % 10) ∷ [])) (sym (left_none (v / 10) z))))
-    (λ (large : 10 ≤ v).
-    let z : v / 10 ≡ 0 → ⊥ = λ e. omega arith in
-    decimal_step v large h ∙ ap (λ (ds : List ℕ). ds ++ ((48 + v % 10) ∷ [])) (sym (left_some (v / 10) z)))
-    (cases_lt v 10)
+    (λ (more : k < length (decimal n)). omega arith)
+    (λ (less : length (decimal n) ≤ k).
+    absurd (omega (arith, below_power n h, pow-le-pow_right {n = 10} (omega arith) {i = length (decimal n)} {j = k} less)))
+    (cases_lt k (length (decimal n)))
 
-pub length_last : (v : ℕ) → v < 2 ^ 64 → length (decimal v) ≡ length (left_digits (v / 10)) + 1
-length_last v h = ap length (decimal_last v h) ∙ length_push (left_digits (v / 10)) (48 + v % 10)
+-- what `digit_count` makes of a logarithm, of which 0 has none
+pub length_from_log : (n : ℕ) (log : Option ℕ) → n < 2 ^ 64 → IfNone log (n ≡ 0) → IfSome log (λ k. 10 ^ k ≤ n) → IfSome log (λ k. n < 10 * 10 ^ k)
+    → unwrap_or log 0 + 1 ≡ length (decimal n)
+length_from_log n None h none lo hi = sym (ap length (decimal_digit n (omega arith)))
+length_from_log n (Some k) h none lo hi = sym (length_from_power k n lo hi h)
 
--- one digit less is left of a number that is not used up
-pub length_left : (v : ℕ) → (v ≡ 0 → ⊥) → v < 2 ^ 64 → length (left_digits v) ≡ length (left_digits (v / 10)) + 1
-length_left v ne h = ap length (left_some v ne) ∙ length_last v h
+-- the last `k` digits of a number
+abbrev pub last_digits : ℕ → ℕ → List ℕ
+last_digits zero n = []
+last_digits (suc k) n = last_digits k (n / 10) ++ ((48 + n % 10) ∷ [])
 
-pub left_less : (k v : ℕ) → v < 2 ^ 64 → length (left_digits v) ≤ k → length (left_digits (v / 10)) ≤ k - 1
-left_less k v h l =
-    ⊎_elim
-    (λ (none : v ≡ 0). let q : v / 10 ≡ 0 = omega arith in omega (arith, ap length (left_none (v / 10) q)))
-    (λ (some : v ≡ 0 → ⊥). omega (arith, length_left v some h))
-    (cases_eq v 0)
+pub all_digits : (n : ℕ) → n < 2 ^ 64 → last_digits (length (decimal n)) n ≡ decimal n
+all_digits = decimal_by_steps (λ n ds. last_digits (length ds) n ≡ ds)
+    (λ n small. let m : n % 10 ≡ n = omega arith in ap (λ (d : ℕ). (48 + d) ∷ []) m)
+    (λ n ds large ih.
+    let long : length (ds ++ ((48 + n % 10) ∷ [])) ≡ suc (length ds) = omega (arith, length_push ds (48 + n % 10)) in
+    ap (λ (k : ℕ). last_digits k n) long ∙ ap (λ (l : List ℕ). l ++ ((48 + n % 10) ∷ [])) ih)
 
--- no number has more than twenty digits
-pub decimal_short : (v : ℕ) → v < 2 ^ 64 → length (decimal v) ≤ 20
-decimal_short v h = length-decimal-le 20 v (omega arith) (omega arith) h
-
-padded_push : (k d : ℕ) (ds : List ℕ) → padded k (ds ++ (d ∷ [])) ≡ padded (k - 1) ds ++ (d ∷ [])
-padded_push k d ds =
-    let n : k - length (ds ++ (d ∷ [])) ≡ k - 1 - length ds = omega (arith, length_push ds d) in
-    ap (λ (m : ℕ). replicate m blank ++ (ds ++ (d ∷ []))) n ∙ sym (append_assoc (replicate (k - 1 - length ds) blank) ds (d ∷ []))
-
--- one column more, from the right
-pub padded_step : (k v : ℕ) → 0 < k → v < 2 ^ 64 → padded k (left_digits v) ≡ padded (k - 1) (left_digits (v / 10)) ++ (column_of v ∷ [])
-padded_step k v p h =
-    ⊎_elim
-    (λ (none : v ≡ 0).
-    let q : v / 10 ≡ 0 = omega arith in
-    let n : k - 0 ≡ k - 1 - 0 + 1 = omega arith in
-    ap (padded k) (left_none v none)
-    ∙ (append-nil (replicate (k - 0) blank)
-    ∙ (ap (λ (m : ℕ). replicate m blank) n
-    ∙ (sym (replicate_more (k - 1 - 0) blank)
-    ∙ (ap (λ (l : List ℕ). l ++ (blank ∷ [])) (sym (append-nil (replicate (k - 1 - 0) blank)))
-    ∙ (ap (λ (ds : List ℕ). padded (k - 1) ds ++ (blank ∷ [])) (sym (left_none (v / 10) q))
-    ∙ ap (λ (b : Bool). padded (k - 1) (left_digits (v / 10)) ++ (cond b blank (48 + v % 10) ∷ [])) (sym (eq-eqb v 0 none))))))))
-    (λ (some : v ≡ 0 → ⊥).
-    ap (padded k) (left_some v some ∙ decimal_last v h)
-    ∙ (padded_push k (48 + v % 10) (left_digits (v / 10))
-    ∙ ap (λ (b : Bool). padded (k - 1) (left_digits (v / 10)) ++ (cond b blank (48 + v % 10) ∷ [])) (sym (ne_eqb v 0 some))))
-    (cases_eq v 0)
-
--- the loop that fills a part: its first column, one column more, and its end; `w` is what is to stand there in all
-pub fill_first : (v : ℕ) (part : List ℕ) → 0 < length part → v < 2 ^ 64
-    → padded (length part - 1) (left_digits (v / 10)) ++ drop (length part - 1) (set part (length part - 1) (48 + v % 10)) ≡ justified (length part) v
-fill_first v part p h =
-    let n : length part - 1 + 1 ≡ length part = omega arith in
-    ap (λ (t : List ℕ). padded (length part - 1) (left_digits (v / 10)) ++ t)
-    (drop-set part (length part - 1) (48 + v % 10) (omega arith)
-    ∙ (ap (λ (m : ℕ). (48 + v % 10) ∷ drop m part) n ∙ ap (λ (t : List ℕ). (48 + v % 10) ∷ t) (drop_all (length part) part (omega arith))))
-    ∙ (sym (padded_push (length part) (48 + v % 10) (left_digits (v / 10))) ∙ ap (padded (length part)) (sym (decimal_last v h)))
-
-pub fill_more : (k v d : ℕ) (part w : List ℕ) → 0 < k → k ≤ length part → v < 2 ^ 64 → d ≡ column_of v → padded k (left_digits v) ++ drop k part ≡ w
-    → padded (k - 1) (left_digits (v / 10)) ++ drop (k - 1) (set part (k - 1) d) ≡ w
-fill_more k v d part w p l h e inv =
-    let lead = padded (k - 1) (left_digits (v / 10)) in
-    let n : k - 1 + 1 ≡ k = omega arith in
-    ap (λ (t : List ℕ). lead ++ t) (drop-set part (k - 1) d (omega arith))
-    ∙ (ap (λ (m : ℕ). lead ++ (d ∷ drop m part)) n
-    ∙ (ap (λ (x : ℕ). lead ++ (x ∷ drop k part)) e
-    ∙ (sym (append_assoc lead (column_of v ∷ []) (drop k part))
-    ∙ (ap (λ (t : List ℕ). t ++ drop k part) (sym (padded_step k v p h)) ∙ inv))))
-
-pub fill_all : (k v : ℕ) (part w : List ℕ) → k ≡ 0 → length (left_digits v) ≤ k → padded k (left_digits v) ++ drop k part ≡ w → part ≡ w
-fill_all k v part w z h inv =
-    let none = nil_from_length (left_digits v) (omega arith) in
-    ap (λ (j : ℕ). padded j [] ++ drop j part) (sym z) ∙ (ap (λ (ds : List ℕ). padded k ds ++ drop k part) (sym none) ∙ inv)
+-- where the loop that writes the digits starts
+pub digits_start : (n : ℕ) (s : List ℕ) → n < 2 ^ 64 → length s ≡ length (decimal n) → last_digits (length s) n ++ drop (length s) s ≡ decimal n
+digits_start n s h e = ap (λ (k : ℕ). last_digits k n ++ drop (length s) s) e
+    ∙ (ap (λ (l : List ℕ). last_digits (length (decimal n)) n ++ l) (drop_all (length s) s (omega arith))
+    ∙ (append-nil (last_digits (length (decimal n)) n) ∙ all_digits n h))
 
 -- a part, cut out of a page and filled, makes the page that is asked for; `put_mid` is what the checker has for the page
 pub placed : (page part : List ℕ) (at width value : ℕ) → at + width ≤ length page → fits page at width value ≡ true

@@ -14,14 +14,14 @@ pub trait Numbered {
 }
 
 /// What is wrong with a field. Lines and columns count from 1.
-#[derive(Clone, Copy)]
+#[derive(Clone, Copy, PartialEq, Eq, Debug)]
 pub enum FieldFault {
     /// The field that starts in this column is no number.
     NoNumber { line: usize, column: usize },
 }
 
 /// What is wrong with a line.
-#[derive(Clone, Copy)]
+#[derive(Clone, Copy, PartialEq, Eq, Debug)]
 pub enum LineFault {
     /// The line has not just its columns.
     Length { line: usize },
@@ -31,7 +31,7 @@ pub enum LineFault {
 
 /// What is wrong with a file of lines. What a line says may be refused too: `C` is the fault of such content, and each
 /// format has its own.
-#[derive(Clone, Copy)]
+#[derive(Clone, Copy, PartialEq, Eq, Debug)]
 pub enum FileFault<C> {
     /// A line cannot be read.
     Line(LineFault),
@@ -40,7 +40,7 @@ pub enum FileFault<C> {
 }
 
 /// A fault of content, and the number of the line that says it.
-#[derive(Clone, Copy)]
+#[derive(Clone, Copy, PartialEq, Eq, Debug)]
 pub struct OnLine<C> {
     pub line: usize,
     pub fault: C,
@@ -109,8 +109,5 @@ impl<C: Numbered> Numbered for FileFault<C> {
 pub fn on_line<T, C>(line: usize, answer: Result<T, C>) -> Result<T, OnLine<C>>
     ensures { result ≡ on_line line answer }
 {
-    match answer {
-        Ok(value) => Ok(value),
-        Err(fault) => Err(OnLine { line, fault }),
-    }
+    answer.map_err(|fault| OnLine { line, fault })
 }

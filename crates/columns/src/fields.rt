@@ -11,12 +11,10 @@ fn blanks(bytes: &[u8]) -> usize
     ensures inside { result ≤ length bytes.now }
     ensures behind { drop result bytes.now ≡ after_blanks bytes.now }
 {
-    for (i, byte) in bytes.iter().enumerate() {
-        if *byte != b' ' {
-            return i;
-        }
-    }
-    bytes.len()
+    bytes
+        .iter()
+        .position(|byte| *byte != b' ')
+        .unwrap_or(bytes.len())
 }
 
 /// The number that digits alone write; few enough that it fits.
@@ -24,12 +22,9 @@ fn digits(bytes: &[u8]) -> Option<u32>
     requires { length bytes.now ≤ 9 }
     ensures { result ≡ digits_behind 0 bytes.now }
 {
-    let mut n: u32 = 0;
+    let mut n = 0;
     for byte in bytes {
-        if *byte < b'0' || *byte > b'9' {
-            return None;
-        }
-        n = n * 10 + (*byte - b'0') as u32;
+        n = n * 10 + char::from(*byte).to_digit(10)?;
     }
     Some(n)
 }
@@ -38,7 +33,11 @@ fn digits(bytes: &[u8]) -> Option<u32>
 fn starts_well(text: &[u8]) -> bool
     ensures { result ≡ starts_well text.now }
 {
-    text.len() == 1 || (text.len() > 1 && text[0] != b'0')
+    match text {
+        [] => false,
+        [_] => true,
+        [first, ..] => *first != b'0',
+    }
 }
 
 /// The number in a field with these bytes, which are at most nine.
@@ -65,14 +64,10 @@ fn can_hold(bytes: &[u8], column: usize, width: usize) -> bool
 fn has_columns(bytes: &[u8], widths: &[usize]) -> bool
     ensures { result ≡ (sum widths.now == length bytes.now) }
 {
-    let mut left = bytes.len();
-    for width in widths {
-        if *width > left {
-            return false;
-        }
-        left -= *width;
-    }
-    left == 0
+    let columns = widths
+        .iter()
+        .try_fold(0usize, |sum, width| sum.checked_add(*width));
+    columns == Some(bytes.len())
 }
 
 impl Line<'_> {
@@ -88,10 +83,7 @@ impl Line<'_> {
         if !can_hold(self.bytes, column, width) {
             return Err(fault);
         }
-        match value(&self.bytes[column - 1..column - 1 + width]) {
-            Some(n) => Ok(n),
-            None => Err(fault),
-        }
+        value(&self.bytes[column - 1..column - 1 + width]).ok_or(fault)
     }
 
     /// The numbers of fields side by side from the first column on, or the first fault from the left.
@@ -99,11 +91,11 @@ impl Line<'_> {
         requires { sum widths ≤ length self.bytes.now }
         ensures { result ≡ fields_from self.entry.number self.entry.bytes.now 1 widths.entry }
     {
-        let mut numbers = [0u32; N];
+        let mut numbers = [0; N];
         let mut column = 1;
-        for i in 0..N {
-            numbers[i] = self.field(column, widths[i])?;
-            column += widths[i];
+        for (i, width) in widths.iter().enumerate() {
+            numbers[i] = self.field(column, *width)?;
+            column += *width;
         }
         Ok(numbers)
     }

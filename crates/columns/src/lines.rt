@@ -6,7 +6,7 @@ ghost use Rattle.std.specs.Prelude.{◌≡◌, ◌≤◌, length, drop};
 ghost use Rattle.columns.specs.Lines.{lines};
 
 /// A line of a file: its number, counted from 1, and its bytes without the newline, which are the caller's own.
-#[derive(Clone, Copy)]
+#[derive(Clone, Copy, PartialEq, Eq, Debug)]
 pub struct Line<'a> {
     pub number: usize,
     pub bytes: &'a [u8],

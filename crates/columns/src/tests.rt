@@ -8,17 +8,10 @@ use std::test::Fail;
 
 type Answer = Result<[u32; 2], (u32, usize, usize)>;
 
-fn told(answer: Result<[u32; 2], LineFault>) -> Answer {
-    match answer {
-        Ok(numbers) => Ok(numbers),
-        Err(fault) => match fault {
-            LineFault::Length { line } => Err((fault.number(), line, 0)),
-            LineFault::Field(FieldFault::NoNumber { line, column }) => Err((
-                fault.number(),
-                line,
-                column,
-            )),
-        },
+fn told(fault: LineFault) -> (u32, usize, usize) {
+    match fault {
+        LineFault::Length { line } => (fault.number(), line, 0),
+        LineFault::Field(FieldFault::NoNumber { line, column }) => (fault.number(), line, column),
     }
 }
 
@@ -26,7 +19,7 @@ fn check_file(rt: &impl Abort, file: &[u8], answers: &[Answer]) -> Result<(), Fa
     let mut reader = Reader::new(file);
     for expected in answers {
         let line = reader.next_line().ok_or("a line is missing")?;
-        assert_eq!(rt; told(line.fields([9, 4])), *expected);
+        assert_eq!(rt; line.fields([9, 4]).map_err(told), *expected);
     }
     assert!(rt; reader.next_line().is_none());
     Ok(())

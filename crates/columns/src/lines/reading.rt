@@ -1,8 +1,8 @@
 //! How a reader finds its lines.
 
-ghost use Rattle.std.specs.Prelude.{◌≡◌, ◌+◌, [], ◌∷◌, length, MatchOption, nat_le, slice_index_or};
+ghost use Rattle.std.specs.Prelude.{◌≡◌, ◌+◌, [], ◌∷◌, length, MatchOption, slice_index_or};
 ghost use Rattle.columns.specs.Lines.{first_line, lines};
-ghost use Rattle.columns.specs.Reading.{file_of, lines_given, lines_left, place_of};
+ghost use Rattle.columns.specs.Reading.{file_of, lines_given, lines_left};
 
 use super::{Line, Reader};
 
@@ -10,12 +10,10 @@ use super::{Line, Reader};
 fn line_length(bytes: &[u8]) -> usize
     ensures { result ≡ length (first_line bytes.now) }
 {
-    for (i, byte) in bytes.iter().enumerate() {
-        if *byte == b'\n' {
-            return i;
-        }
-    }
-    bytes.len()
+    bytes
+        .iter()
+        .position(|byte| *byte == b'\n')
+        .unwrap_or(bytes.len())
 }
 
 impl<'a> Reader<'a> {
@@ -32,13 +30,6 @@ impl<'a> Reader<'a> {
         }
     }
 
-    /// Whether no byte is left, and so no line.
-    fn is_done(&self) -> bool
-        ensures { result ≡ nat_le (length (file_of self.now)) (place_of self.now) }
-    {
-        self.place >= self.bytes.len()
-    }
-
     /// The next line and its number, or `None` once there is none left, and then for ever.
     pub fn next_line(&mut self) -> Option<Line<'a>>
         ensures file { file_of self.new ≡ file_of self.old }
@@ -51,19 +42,13 @@ impl<'a> Reader<'a> {
             × (l.number ≡ lines_given self.new)
             × (l.bytes.now ≡ slice_index_or (lines (file_of self.old)) (lines_given self.old) [])) }
     {
-        if self.is_done() {
+        let rest = &self.bytes[self.place..];
+        if rest.is_empty() {
             return None;
         }
-        let bytes = self.bytes;
-        let from = self.place;
-        let rest = &bytes[from..];
-        let n = line_length(rest);
-        let line = &rest[0..n];
-        self.place = if n < rest.len() {
-            from + n + 1
-        } else {
-            bytes.len()
-        };
+        let width = line_length(rest);
+        let line = &rest[..width];
+        self.place = (self.place + width + 1).min(self.bytes.len());
         self.given += 1;
         Some(Line {
             number: self.given,

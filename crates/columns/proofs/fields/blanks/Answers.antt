@@ -1,22 +1,16 @@
-use Rattle.std.proofs.Common.{length, sym, ◌∙◌, arith}
-use Rattle.std.proofs.lemmas.List.{drop_all, at_drop_all}
-use Rattle.columns.specs.Fields.{after_blanks}
-use Rattle.columns.proofs.FieldFacts.{blank_step, blank_stop}
+use Rattle.std.proofs.Common.{ℕ, eqb, not, drop, ap, ◌∙◌, rules, arith}
+use borrow.Author.Tests.{tests}
+use Rattle.std.proofs.lemmas.Iterator.{YieldsList-from_slice}
+use Rattle.std.proofs.lemmas.Iterator.Search.{position_from_yields_List}
+use Rattle.std.proofs.lemmas.List.Sums.{prefix_len-le-length}
+use Rattle.columns.specs.Fields.{blank}
+use Rattle.columns.proofs.FieldFacts.{blanks_end}
+use Rattle.columns.proofs.Found.{found_or_length}
 use Rattle.columns.proofs.fields.blanks.Goals as goal
-
-pub returns-then-byte-ne32 : goal.returns-then-byte-ne32
-returns-then-byte-ne32 c =
-    record {
-      inside = omega arith;
-      behind = sym (blank_stop c.args.bytes.now c.loop-i.i (omega arith) c.if-byte-ne32.true) ∙ c.loop-i.invariant;
-    }
-
-pub loop-i-preserved : goal.loop-i-preserved
-loop-i-preserved c = sym (blank_step c.args.bytes.now c.loop-i.i (omega arith) c.if-byte-ne32.false) ∙ c.loop-i.invariant
 
 pub returns : goal.returns
 returns c =
-    record {
-      inside = omega arith;
-      behind = drop_all (length c.args.bytes.now) c.args.bytes.now (omega arith) ∙ (sym (at_drop_all after_blanks c.args.bytes.now c.loop-i.i (omega arith)) ∙ c.loop-i.invariant);
-    }
+    let s = c.args.bytes.now in
+    let found = position_from_yields_List (λ b. not (eqb b blank)) _ _ c.position.result c.position.ensures.ran (YieldsList-from_slice _ c.iter.ensures.rest) (λ x b q k. search (rules, tests)) in
+    let e = c.unwrap_or.ensures ∙ found_or_length (λ b. not (eqb b blank)) s c.position.result found in
+    record { inside = omega (arith, e, prefix_len-le-length (λ b. not (not (eqb b blank))) s); behind = ap (λ (n : ℕ). drop n s) e ∙ blanks_end s }

@@ -6,7 +6,7 @@ use Rattle.columns.proofs.lines.Line.numbers.Given as goal
 -- the numbers so far, before those of the widths that are left, are the answer; and the column is where those start
 abbrev pub invariant-loop-i : goal.invariant-loop-i
 invariant-loop-i g l =
-    (behind (take l.i l.numbers) (fields_from l.self.number l.self.bytes.now l.column (drop l.i l.widths))
-    ≡ fields_from l.self.number l.self.bytes.now 1 l.widths)
-    × (l.column + sum (drop l.i l.widths) ≡ 1 + sum l.widths)
-    × (length l.numbers ≡ length l.widths)
+    (behind (take l.i l.numbers) (fields_from l.self.number l.self.bytes.now l.column (drop l.i l.fn.widths))
+    ≡ fields_from l.self.number l.self.bytes.now 1 l.fn.widths)
+    × (l.column + sum (drop l.i l.fn.widths) ≡ 1 + sum l.fn.widths)
+    × (length l.numbers ≡ length l.fn.widths)

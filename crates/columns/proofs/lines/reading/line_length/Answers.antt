@@ -1,14 +1,14 @@
-use Rattle.std.proofs.Common.{arith}
-use Rattle.columns.proofs.LineFacts.{first_step, first_stop, first_out}
+use Rattle.std.proofs.Common.{eqb, sym, ◌∙◌, rules}
+use borrow.Author.Tests.{tests}
+use Rattle.std.proofs.lemmas.Iterator.{YieldsList-from_slice}
+use Rattle.std.proofs.lemmas.Iterator.Search.{position_from_yields_List}
+use Rattle.columns.specs.Lines.{newline}
+use Rattle.columns.proofs.Found.{found_or_length}
+use Rattle.columns.proofs.LineFacts.{length_first}
 use Rattle.columns.proofs.lines.reading.line_length.Goals as goal
 
-pub returns-then-byte-eq10 : goal.returns-then-byte-eq10
-returns-then-byte-eq10 c =
-    omega (arith, first_stop c.args.bytes.now c.loop-i.i (omega arith) c.if-byte-eq10.true, c.loop-i.invariant)
-
-pub loop-i-preserved : goal.loop-i-preserved
-loop-i-preserved c =
-    omega (arith, first_step c.args.bytes.now c.loop-i.i (omega arith) c.if-byte-eq10.false, c.loop-i.invariant)
-
 pub returns : goal.returns
-returns c = omega (arith, first_out c.args.bytes.now c.loop-i.i (omega arith), c.loop-i.invariant)
+returns c =
+    let s = c.args.bytes.now in
+    let found = position_from_yields_List (λ b. eqb b newline) _ _ c.position.result c.position.ensures.ran (YieldsList-from_slice _ c.iter.ensures.rest) (λ x b q k. search (rules, tests)) in
+    c.unwrap_or.ensures ∙ (found_or_length (λ b. eqb b newline) s c.position.result found ∙ sym (length_first s))
