@@ -10,27 +10,25 @@ use Rattle.columns.specs.Laws.{field_of}
 followed_ok : (r : Result ℕ FieldFault) (rs : Result (List ℕ) FieldFault) (ns : List ℕ) → followed_by r rs ≡ Ok ns
     → (n : ℕ) × ((ms : List ℕ) × ((r ≡ Ok n) × (rs ≡ Ok ms) × (ns ≡ n ∷ ms)))
 followed_ok (Ok n) (Ok ms) ns e = (n, (ms, (refl, refl, (cc))))
-followed_ok (Ok n) (Err fault) ns e = let z : ◌≡◌ {A = ℕ} 0 1 = cc in absurd (omega arith)
-followed_ok (Err fault) rs ns e = let z : ◌≡◌ {A = ℕ} 0 1 = cc in absurd (omega arith)
+followed_ok (Ok n) (Err fault) ns e = cc
+followed_ok (Err fault) rs ns e = cc
 
 followed_err : (r : Result ℕ FieldFault) (rs : Result (List ℕ) FieldFault) (fault : FieldFault) → followed_by r rs ≡ Err fault
     → (r ≡ Err fault) ⊎ ((is_ok r ≡ true) × (rs ≡ Err fault))
-followed_err (Ok n) (Ok ms) fault e = let z : ◌≡◌ {A = ℕ} 0 1 = cc in absurd (omega arith)
+followed_err (Ok n) (Ok ms) fault e = cc
 followed_err (Ok n) (Err other) fault e = inr (refl, cc)
 followed_err (Err other) rs fault e = inl (cc)
 
 -- what its fields answered, if a line was not refused for its length
 long_ok : (rs : Result (List ℕ) FieldFault) (long : Bool) (line : ℕ) (ns : List ℕ) → cond long (in_line rs) (Err (Length line)) ≡ Ok ns → rs ≡ Ok ns
 long_ok (Ok ms) true line ns e = cc
-long_ok (Ok ms) false line ns e = cc
 long_ok (Err fault) true line ns e = cc
-long_ok (Err fault) false line ns e = cc
+long_ok rs false line ns e = cc
 
 long_err : (rs : Result (List ℕ) FieldFault) (long : Bool) (line : ℕ) (fault : FieldFault) → cond long (in_line rs) (Err (Length line)) ≡ Err (Field fault) → rs ≡ Err fault
 long_err (Ok ms) true line fault e = cc
-long_err (Ok ms) false line fault e = cc
 long_err (Err other) true line fault e = cc
-long_err (Err other) false line fault e = cc
+long_err rs false line fault e = cc
 
 module _ (line : ℕ) (bytes : List ℕ) where
   -- the field behind `k` others, where the first starts in `column`
@@ -40,7 +38,7 @@ module _ (line : ℕ) (bytes : List ℕ) where
   first_behind : (column width : ℕ) (widths : List ℕ) → field_behind column (width ∷ widths) 0 ≡ field_at line bytes column width
   first_behind column width widths =
       let n : column + 0 ≡ column = omega arith in
-      ap (λ (c : ℕ). field_at line bytes c width) n
+      rw n
 
   more_behind : (column width k : ℕ) (widths : List ℕ) → field_behind column (width ∷ widths) (suc k) ≡ field_behind (column + width) widths k
   more_behind column width k widths =
@@ -51,10 +49,8 @@ module _ (line : ℕ) (bytes : List ℕ) where
   each_number : (column width n : ℕ) (widths ms ns : List ℕ) → ns ≡ n ∷ ms → field_at line bytes column width ≡ Ok n
       → ((k : ℕ) → k < length widths → field_behind (column + width) widths k ≡ Ok (get_or ms k 0))
       → (k : ℕ) → k < suc (length widths) → field_behind column (width ∷ widths) k ≡ Ok (get_or ns k 0)
-  each_number column width n widths ms ns c e others zero lt =
-      first_behind column width widths ∙ (e ∙ ap (λ (l : List ℕ). Ok (get_or l 0 0)) (sym c))
-  each_number column width n widths ms ns c e others (suc k) lt =
-      more_behind column width k widths ∙ (others k (omega arith) ∙ ap (λ (l : List ℕ). Ok (get_or l (suc k) 0)) (sym c))
+  each_number column width n widths ms ns c e others zero lt = rw c (first_behind column width widths ∙ e)
+  each_number column width n widths ms ns c e others (suc k) lt = rw c (more_behind column width k widths ∙ others k (omega arith))
 
   all_before : (column width k : ℕ) (widths : List ℕ) → is_ok (field_at line bytes column width) ≡ true
       → ((j : ℕ) → j < k → is_ok (field_behind (column + width) widths j) ≡ true)
@@ -74,7 +70,7 @@ module _ (line : ℕ) (bytes : List ℕ) where
 
   first_fault : (column : ℕ) (widths : List ℕ) (fault : FieldFault) → fields_from line bytes column widths ≡ Err fault
       → (k : ℕ) × ((k < length widths) × (field_behind column widths k ≡ Err fault) × ((j : ℕ) → j < k → is_ok (field_behind column widths j) ≡ true))
-  first_fault column [] fault e = let z : ◌≡◌ {A = ℕ} 0 1 = cc in absurd (omega arith)
+  first_fault column [] fault e = cc
   first_fault column (width ∷ widths) fault e =
       ⊎_elim
       (λ (here : field_at line bytes column width ≡ Err fault).

@@ -1,20 +1,19 @@
--- How the digits of a number are found from its end.
-use Rattle.std.proofs.Common.{◌≡◌, ℕ, zero, suc, ◌+◌, ◌-◌, ◌*◌, ◌/◌, ◌%◌, ◌^◌, ◌<◌, ◌≤◌, Bool, true, cond, List, [], ◌∷◌, ◌++◌, length, take, drop, replicate, decimal, Option, Some, None, IfSome, IfNone, unwrap_or, sym, ap, ◌∙◌, ⊎_elim, arith, add-one, pow-suc}
+-- How the digits of a number are counted, and found from its end.
+use Rattle.std.proofs.Common.{◌≡◌, ℕ, zero, suc, ◌+◌, ◌*◌, ◌/◌, ◌%◌, ◌^◌, ◌<◌, ◌≤◌, true, List, [], ◌∷◌, ◌++◌, length, take, drop, decimal, Option, Some, None, IfSome, IfNone, unwrap_or, sym, ap, ⊎_elim, arith, add-one, pow-suc}
 use native.Mathlib.Nat.{pow-le-pow_right}
-use borrow.Rule.Slice.PartMut.{put_mid}
-use Rattle.std.proofs.lemmas.Fmt.{decimal_by_steps, decimal_digit, length-decimal-le}
-use Rattle.std.proofs.lemmas.List.{append_assoc, append-nil, drop_all, drop_at, drop-drop, length-append, length-drop, length_push, length-replicate, length-take-le, take_at}
-use Rattle.std.proofs.lemmas.Bool.Decides.{nat_tests}
 use Rattle.std.proofs.lemmas.Bool.{cases_lt}
-use Rattle.columns.specs.Fields.{blank}
+use Rattle.std.proofs.lemmas.Bool.Decides.{nat_tests}
+use Rattle.std.proofs.lemmas.Fmt.{decimal_by_steps, decimal_digit, length-decimal-le}
+use Rattle.std.proofs.lemmas.List.{append_assoc, append-nil, drop_all, drop_at, length-append, length_push, length-replicate, length-take-le, take_at}
 use Rattle.columns.specs.Numbers.{justified, fits, written}
 
--- a number has as many digits as the power of ten above it has zeros
+-- a number is below the power of ten with as many zeros as it has digits
 below_power : (n : ℕ) → n < 2 ^ 64 → n < 10 ^ length (decimal n)
-below_power = decimal_by_steps (λ n ds. n < 10 ^ length ds) (λ n small. omega arith)
+below_power =
+    decimal_by_steps (λ n ds. n < 10 ^ length ds) (λ n small. omega arith)
     (λ n ds large ih. rw (length_push ds (48 + n % 10), add-one, pow-suc) (omega (arith, ih)))
 
-pub length_from_power : (k n : ℕ) → 10 ^ k ≤ n → n < 10 * 10 ^ k → n < 2 ^ 64 → length (decimal n) ≡ k + 1
+length_from_power : (k n : ℕ) → 10 ^ k ≤ n → n < 10 * 10 ^ k → n < 2 ^ 64 → length (decimal n) ≡ k + 1
 length_from_power k n lo hi h =
     let above : n < 10 ^ (k + 1) = rw (add-one, pow-suc) (omega arith) in
     let most = length-decimal-le (k + 1) n (omega arith) above h in
@@ -24,7 +23,7 @@ length_from_power k n lo hi h =
     absurd (omega (arith, below_power n h, pow-le-pow_right {n = 10} (omega arith) {i = length (decimal n)} {j = k} less)))
     (cases_lt k (length (decimal n)))
 
--- what `digit_count` makes of a logarithm, of which 0 has none
+-- what is made of a logarithm, of which 0 has none
 pub length_from_log : (n : ℕ) (log : Option ℕ) → n < 2 ^ 64 → IfNone log (n ≡ 0) → IfSome log (λ k. 10 ^ k ≤ n) → IfSome log (λ k. n < 10 * 10 ^ k)
     → unwrap_or log 0 + 1 ≡ length (decimal n)
 length_from_log n None h none lo hi = sym (ap length (decimal_digit n (omega arith)))
@@ -35,34 +34,18 @@ abbrev pub last_digits : ℕ → ℕ → List ℕ
 last_digits zero n = []
 last_digits (suc k) n = last_digits k (n / 10) ++ ((48 + n % 10) ∷ [])
 
-pub all_digits : (n : ℕ) → n < 2 ^ 64 → last_digits (length (decimal n)) n ≡ decimal n
-all_digits = decimal_by_steps (λ n ds. last_digits (length ds) n ≡ ds)
-    (λ n small. let m : n % 10 ≡ n = omega arith in ap (λ (d : ℕ). (48 + d) ∷ []) m)
-    (λ n ds large ih.
-    let long : length (ds ++ ((48 + n % 10) ∷ [])) ≡ suc (length ds) = omega (arith, length_push ds (48 + n % 10)) in
-    ap (λ (k : ℕ). last_digits k n) long ∙ ap (λ (l : List ℕ). l ++ ((48 + n % 10) ∷ [])) ih)
+all_digits : (n : ℕ) → n < 2 ^ 64 → last_digits (length (decimal n)) n ≡ decimal n
+all_digits =
+    decimal_by_steps (λ n ds. last_digits (length ds) n ≡ ds)
+    (λ n small. let m : n % 10 ≡ n = omega arith in rw m)
+    (λ n ds large ih. rw (length_push ds (48 + n % 10), add-one, ih))
 
 -- where the loop that writes the digits starts
 pub digits_start : (n : ℕ) (s : List ℕ) → n < 2 ^ 64 → length s ≡ length (decimal n) → last_digits (length s) n ++ drop (length s) s ≡ decimal n
-digits_start n s h e = ap (λ (k : ℕ). last_digits k n ++ drop (length s) s) e
-    ∙ (ap (λ (l : List ℕ). last_digits (length (decimal n)) n ++ l) (drop_all (length s) s (omega arith))
-    ∙ (append-nil (last_digits (length (decimal n)) n) ∙ all_digits n h))
-
--- a part, cut out of a page and filled, makes the page that is asked for; `put_mid` is what the checker has for the page
-pub placed : (page part : List ℕ) (at width value : ℕ) → at + width ≤ length page → fits page at width value ≡ true
-    → part ≡ justified (length (take (at + width - at) (drop at page))) value → put_mid at (at + width - at) page part ≡ written page at width value
-placed page part at width value h fit e =
-    let w : at + width - at ≡ width = omega arith in
-    let columns : length (take (at + width - at) (drop at page)) ≡ width =
-    length-take-le (at + width - at) (drop at page) (omega (arith, length-drop at page)) ∙ w in
-    ap (put_mid at (at + width - at) page) (e ∙ ap (λ (n : ℕ). justified n value) columns)
-    ∙ (ap (λ (k : ℕ). put_mid at k page (justified width value)) w
-    ∙ (ap (λ (l : List ℕ). take at page ++ (justified width value ++ l)) (drop-drop width at page)
-    ∙ ap (λ (b : Bool). cond b (take at page ++ (justified width value ++ drop (at + width) page)) page) (sym fit)))
+digits_start n s h e = rw (drop_all (length s) s (omega arith), append-nil, e) (all_digits n h)
 
 pub length_justified : (width value : ℕ) → length (decimal value) ≤ width → length (justified width value) ≡ width
-length_justified width value h =
-    omega (arith, length-append (replicate (width - length (decimal value)) blank) (decimal value), length-replicate (width - length (decimal value)) blank)
+length_justified width value h = simp (length-append, length-replicate) (omega arith)
 
 -- a number below the power of ten fits so many columns
 pub fits_below : (page : List ℕ) (at width value : ℕ) → 0 < width → value < 10 ^ width → value < 2 ^ 64 → at + width ≤ length page → fits page at width value ≡ true
@@ -73,18 +56,16 @@ fits_below page at width value some small h within =
 -- the page that was written, for writes from left to right: what stands up to the part's end, and behind it
 module _ (page : List ℕ) (at width value : ℕ) (fit : fits page at width value ≡ true) where
   filled : written page at width value ≡ (take at page ++ justified width value) ++ drop (at + width) page
-  filled =
-      ap (λ (b : Bool). cond b (take at page ++ (justified width value ++ drop (at + width) page)) page) fit
-      ∙ sym (append_assoc (take at page) (justified width value) (drop (at + width) page))
+  filled = rw fit (sym (append_assoc (take at page) (justified width value) (drop (at + width) page)))
 
   filled_length : length (take at page ++ justified width value) ≡ at + width
   filled_length =
       let columns : length (decimal value) ≤ width = grind (arith, nat_tests) in
       let within : at + width ≤ length page = grind (arith, nat_tests) in
-      omega (arith, length-append (take at page) (justified width value), length-take-le at page (omega arith), length_justified width value columns)
+      rw length-append (omega (arith, length-take-le at page (omega arith), length_justified width value columns))
 
   pub written_front : take (at + width) (written page at width value) ≡ take at page ++ justified width value
-  written_front = ap (take (at + width)) filled ∙ take_at (take at page ++ justified width value) (drop (at + width) page) (at + width) filled_length
+  written_front = rw filled (take_at (take at page ++ justified width value) (drop (at + width) page) (at + width) filled_length)
 
   pub written_back : drop (at + width) (written page at width value) ≡ drop (at + width) page
-  written_back = ap (drop (at + width)) filled ∙ drop_at (take at page ++ justified width value) (drop (at + width) page) (at + width) filled_length
+  written_back = rw filled (drop_at (take at page ++ justified width value) (drop (at + width) page) (at + width) filled_length)

@@ -18,6 +18,7 @@ fn blanks(bytes: &[u8]) -> usize
 }
 
 /// The number that digits alone write; few enough that it fits.
+#[tactic(auto, using(crate::proofs::FieldFacts::power_within))]
 fn digits(bytes: &[u8]) -> Option<u32>
     requires { length bytes.now ≤ 9 }
     ensures { result ≡ digits_behind 0 bytes.now }

@@ -22,6 +22,7 @@ fn check_file(rt: &impl Abort, file: &[u8], answers: &[Answer]) -> Result<(), Fa
         assert_eq!(rt; line.fields([9, 4]).map_err(told), *expected);
     }
     assert!(rt; reader.next_line().is_none());
+    assert_eq!(rt; Reader::new(file).count(), answers.len());
     Ok(())
 }
 

@@ -1,8 +1,9 @@
 //! How a reader finds its lines.
 
-ghost use Rattle.std.specs.Prelude.{◌≡◌, ◌+◌, [], ◌∷◌, length, MatchOption, slice_index_or};
+ghost use Rattle.std.specs.Prelude.{◌≡◌, ◌+◌, ◌-◌, [], ◌∷◌, length, MatchOption, slice_index_or};
+ghost use Rattle.std.specs.Iterator.{YieldsFirstBy, at_most};
 ghost use Rattle.columns.specs.Lines.{first_line, lines};
-ghost use Rattle.columns.specs.Reading.{file_of, lines_given, lines_left};
+ghost use Rattle.columns.specs.Reading.{file_of, lines_given, lines_left, numbered, numbered_left};
 
 use super::{Line, Reader};
 
@@ -54,5 +55,18 @@ impl<'a> Reader<'a> {
             number: self.given,
             bytes: line,
         })
+    }
+}
+
+impl<'a> Iterator for Reader<'a> {
+    type Item = Line<'a>;
+
+    ghost next_gives = { YieldsFirstBy numbered numbered_left };
+
+    // Each line takes at least one byte.
+    ghost remaining = { λ reader. at_most (length (file_of reader) - lines_given reader) };
+
+    fn next(&mut self) -> Option<Line<'a>> {
+        self.next_line()
     }
 }
