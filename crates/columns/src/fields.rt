@@ -94,6 +94,7 @@ impl Line<'_> {
     {
         let mut numbers = [0; N];
         let mut column = 1;
+        // By index: behind a loop over `iter_mut` a proof knows the array's length, and none of its elements.
         for (i, width) in widths.iter().enumerate() {
             numbers[i] = self.field(column, *width)?;
             column += *width;

@@ -11,6 +11,7 @@ pub struct DoesNotFit;
 fn digit_count(value: u64) -> usize
     ensures { result ≡ length (decimal value) }
 {
+    // 0 has no logarithm, and one digit.
     value.checked_ilog10().unwrap_or(0) as usize + 1
 }
 
@@ -20,6 +21,7 @@ fn put_digits(bytes: &mut [u8], value: u64)
     ensures { bytes.new ≡ decimal value }
 {
     let mut rest = value;
+    // By index: `write!` into a slice, and a loop over `iter_mut`, tell a proof nothing of the bytes.
     for k in (0..bytes.len()).rev() {
         bytes[k] = b'0' + (rest % 10) as u8;
         rest /= 10;

@@ -58,6 +58,7 @@ impl<'a> Reader<'a> {
     }
 }
 
+/// The lines that are left, as `next_line` gives them, for a `for` and for chains.
 impl<'a> Iterator for Reader<'a> {
     type Item = Line<'a>;
 
