@@ -1,12 +1,11 @@
 -- Lowering a row by one speed after another, from the last to the first.
-use Rattle.std.proofs.Common.{◌≡◌, ℕ, ◌+◌, ◌-◌, ◌<◌, ◌≤◌, min, Bool, true, false, leb, ◌≢◌, List, [], ◌∷◌, length, get_or, drop, set, sym, refl, ap, ◌∙◌, subst, ⊎_elim, arith}
+use Rattle.std.proofs.Common.{◌≡◌, ℕ, ◌+◌, ◌-◌, ◌<◌, ◌≤◌, min, max, Bool, true, false, leb, ◌≢◌, List, [], ◌∷◌, length, get_or, drop, set, sym, refl, ap, ◌∙◌, subst, ⊎_elim, arith}
 use borrow.Author.Tests.{clash}
 use Rattle.std.proofs.lemmas.List.{at_drop_more, at_drop_all, get_or_read, get_or-set_same, get_or-set_other}
-use Rattle.std.proofs.lemmas.Bool.{cases_Bool, cases_lt, cond-true, cond-false, le-leb}
-use Rattle.tariff.specs.Charges.{largest_charge}
+use Rattle.std.proofs.lemmas.Bool.{cases_Bool, cases_lt, cond-true, cond-false, le-leb, lt-leb}
 use Rattle.measure.specs.Kinds.{Kind}
 use Rattle.recursion.specs.Staged.{Best, none, best, under, lower, lowest}
-use Rattle.recursion.specs.Rows.{Charged, offer, tried, best_tried, Lowered, Picked}
+use Rattle.recursion.specs.Rows.{offer, tried, best_tried, Lowered, Picked}
 use Rattle.recursion.proofs.Ranked.{Ranked}
 use Rattle.recursion.proofs.Optimum.{under_trans, under_total}
 
@@ -63,6 +62,22 @@ lowered_set {M} q f from i s m picks row picks' row' start ip ir is under inv =
       above = λ e h. let ne : e ≢ i = omega arith in other e ne ∙ inv.above e (omega arith);
     }
 
+-- a row lowered by one speed: not where it does less than is needed, in full, and from where it does all that has arrived
+pub lowered_row : {M : Type 0} (q : Kind M) (m all : M) (low high arrived need s from mid : ℕ) (next r₀ r₁ r₂ : List M) (p₀ p₁ p₂ : List ℕ) → need ≤ arrived → from ≡ min (max (need - s) low) (high + 1) → mid ≡ min (max (arrived + 1 - s) from) (high + 1) → all ≡ q.join m (get_or next arrived q.nought) →
+    Lowered q (λ e. best s (q.join m (get_or next (e + s) q.nought))) from mid p₀ r₀ p₁ r₁ → Lowered q (λ e. best s all) mid (high + 1) p₁ r₁ p₂ r₂ →
+    (e : ℕ) → low ≤ e → e ≤ high → best (get_or p₂ e 0) (get_or r₂ e q.nought) ≡ lower q (offer q m arrived need next s e) (best (get_or p₀ e 0) (get_or r₀ e q.nought))
+lowered_row {M} q m all low high arrived need s from mid next r₀ r₁ r₂ p₀ p₁ p₂ near from_is mid_is all_is a b e lo hi =
+    let held = best (get_or p₀ e 0) (get_or r₀ e q.nought) in
+    let f = min (e + s) arrived in
+    let some = best s (q.join m (get_or next f q.nought)) in
+    ⊎_elim
+    (λ short. b.below e (omega arith) ∙ a.below e short ∙ sym (ap (λ (x : Best M). lower q x held) (cond-false (leb need f) some none (lt-leb need f (omega arith))) ∙ lower_none q held))
+    (λ does. ⊎_elim
+    (λ full. b.below e full ∙ a.inside e does full ∙ ap (λ (x : Best M). lower q x held) (sym (offer_enough q m arrived need next s e (e + s) (omega arith) (omega arith))))
+    (λ done. b.inside e done (omega arith) ∙ ap (lower q (best s all)) (a.above e done) ∙ ap (λ (x : Best M). lower q x held) (ap (best s) all_is ∙ sym (offer_enough q m arrived need next s e arrived (omega arith) near)))
+    (cases_lt e mid))
+    (cases_lt e from)
+
 -- one place more, by the test that the code makes
 pub lowered_turn : {M : Type 0} (q : Kind M) (f : ℕ → Best M) (from i s : ℕ) (m x : M) (b : Bool) (picks : List ℕ) (row : List M) (picks' : List ℕ) (row' : List M) → from ≤ i → i < length picks' → i < length row' → f i ≡ best s m → x ≡ get_or row' i x → b ≡ q.not_above m x → Lowered q f from i picks row picks' row' →
     (b ≡ true → Lowered q f from (i + 1) picks row (set picks' i s) (set row' i m)) × (b ≡ false → Lowered q f from (i + 1) picks row picks' row')
@@ -116,39 +131,30 @@ module _ {M : Type 0} {q : Kind M} (laws : Ranked q) where
     at_front e i h =
         at_drop_more (λ l. best_tried q charge arrived need next l e) ss i 0 h ∙ lowest_front (tried q charge arrived need next e) (get_or ss i 0) (drop (i + 1) ss)
 
-    -- the measure of a charge, as the code works it out
-    charge_measure : (charges : List ℕ) (i : ℕ) (m : M) → Charged charge ss charges → i < length ss → m ≡ q.of (min (get_or charges i 0) largest_charge) → m ≡ q.of (charge (get_or ss i 0))
-    charge_measure charges i m charged h is =
-        let same : min (get_or charges i 0) largest_charge ≡ charge (get_or ss i 0) = omega (arith, (charged i h).0, (charged i h).1) in
-        is ∙ ap q.of same
-
     -- a row with the last speed alone
-    pub picked_last : (charges : List ℕ) (m : M) (low high : ℕ) (picks : List ℕ) (row : List M) → Charged charge ss charges → 0 < length ss → m ≡ q.of (min (get_or charges (length ss - 1) 0) largest_charge) →
-        ((e : ℕ) → low ≤ e → e ≤ high → best (get_or picks e 0) (get_or row e q.nought) ≡ offer q m arrived need next (get_or ss (length ss - 1) 0) e) →
-        Picked q charge arrived need next (drop (length ss - 1) ss) low high row picks
-    picked_last charges m low high picks row charged some is started e lo hi =
-        let i = length ss - 1 in
-        let t = tried q charge arrived need next e (get_or ss i 0) in
-        let end : best_tried q charge arrived need next (drop (i + 1) ss) e ≡ none = at_drop_all (λ l. best_tried q charge arrived need next l e) ss (i + 1) (omega arith) in
+    pub picked_last : (s i : ℕ) (m : M) (low high : ℕ) (picks : List ℕ) (row : List M) → 0 < length ss → i ≡ length ss - 1 → s ≡ get_or ss (length ss - 1) 0 → m ≡ q.of (charge s) →
+        ((e : ℕ) → low ≤ e → e ≤ high → best (get_or picks e 0) (get_or row e q.nought) ≡ offer q m arrived need next s e) →
+        Picked q charge arrived need next (drop i ss) low high row picks
+    picked_last s i m low high picks row some last is measure started e lo hi =
+        let j = length ss - 1 in
+        let t = tried q charge arrived need next e (get_or ss j 0) in
+        let end : best_tried q charge arrived need next (drop (j + 1) ss) e ≡ none = at_drop_all (λ l. best_tried q charge arrived need next l e) ss (j + 1) (omega arith) in
         started e lo hi
-        ∙ ap (λ (v : M). offer q v arrived need next (get_or ss i 0) e) (charge_measure charges i m charged (omega arith) is)
-        ∙ sym (at_front e i (omega arith) ∙ ap (lower q t) end ∙ none_lower q t)
+        ∙ ap (λ (v : M). offer q v arrived need next s e) measure
+        ∙ ap (tried q charge arrived need next e) is
+        ∙ sym (ap (λ (v : ℕ). best_tried q charge arrived need next (drop v ss) e) last ∙ at_front e j (omega arith) ∙ ap (lower q t) end ∙ none_lower q t)
 
     -- a row lowered by the speed before
-    pub picked_before : (charges : List ℕ) (l : ℕ) (m : M) (low high : ℕ) (p₀ p₁ : List ℕ) (r₀ r₁ : List M) → Charged charge ss charges → 0 < l → l ≤ length ss → m ≡ q.of (min (get_or charges (l - 1) 0) largest_charge) →
+    pub picked_before : (s i l : ℕ) (m : M) (low high : ℕ) (p₀ p₁ : List ℕ) (r₀ r₁ : List M) → l ≡ i + 1 → l ≤ length ss → s ≡ get_or ss i 0 → m ≡ q.of (charge s) →
         Picked q charge arrived need next (drop l ss) low high r₀ p₀ →
-        ((e : ℕ) → low ≤ e → e ≤ high → best (get_or p₁ e 0) (get_or r₁ e q.nought) ≡ lower q (offer q m arrived need next (get_or ss (l - 1) 0) e) (best (get_or p₀ e 0) (get_or r₀ e q.nought))) →
-        Picked q charge arrived need next (drop (l - 1) ss) low high r₁ p₁
-    picked_before charges l m low high p₀ p₁ r₀ r₁ charged some within is before lowered e lo hi =
-        let i = l - 1 in
-        let s = get_or ss i 0 in
-        let on : l ≡ i + 1 = omega arith in
+        ((e : ℕ) → low ≤ e → e ≤ high → best (get_or p₁ e 0) (get_or r₁ e q.nought) ≡ lower q (offer q m arrived need next s e) (best (get_or p₀ e 0) (get_or r₀ e q.nought))) →
+        Picked q charge arrived need next (drop i ss) low high r₁ p₁
+    picked_before s i l m low high p₀ p₁ r₀ r₁ on within is measure before lowered e lo hi =
         lowered e lo hi
-        ∙ ap (λ (v : M). lower q (offer q v arrived need next s e) (best (get_or p₀ e 0) (get_or r₀ e q.nought))) (charge_measure charges i m charged (omega arith) is)
-        ∙ ap (lower q (tried q charge arrived need next e s)) (before e lo hi ∙ ap (λ (v : ℕ). best_tried q charge arrived need next (drop v ss) e) on)
+        ∙ ap (λ (v : M). lower q (offer q v arrived need next s e) (best (get_or p₀ e 0) (get_or r₀ e q.nought))) measure
+        ∙ ap (λ (v : ℕ). lower q (tried q charge arrived need next e v) (best (get_or p₀ e 0) (get_or r₀ e q.nought))) is
+        ∙ ap (lower q (tried q charge arrived need next e (get_or ss i 0))) (before e lo hi ∙ ap (λ (v : ℕ). best_tried q charge arrived need next (drop v ss) e) on)
         ∙ sym (at_front e i (omega arith))
 
-    pub picked_all : (l low high : ℕ) (picks : List ℕ) (row : List M) → l ≤ 0 → Picked q charge arrived need next (drop l ss) low high row picks → Picked q charge arrived need next ss low high row picks
-    picked_all l low high picks row h inv e lo hi =
-        let end : l ≡ 0 = omega arith in
-        inv e lo hi ∙ ap (λ (v : ℕ). best_tried q charge arrived need next (drop v ss) e) end
+    pub picked_all : (i low high : ℕ) (picks : List ℕ) (row : List M) → i ≡ 0 → Picked q charge arrived need next (drop i ss) low high row picks → Picked q charge arrived need next ss low high row picks
+    picked_all i low high picks row end inv e lo hi = inv e lo hi ∙ ap (λ (v : ℕ). best_tried q charge arrived need next (drop v ss) e) end

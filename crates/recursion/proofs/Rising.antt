@@ -1,8 +1,10 @@
 -- Lists of speeds: the steps of the tests, and what a lawful list gives.
-use Rattle.std.proofs.Common.{◌≡◌, ℕ, zero, suc, ◌+◌, ◌-◌, ◌<◌, ◌≤◌, Bool, true, false, ◌&&◌, eqb, ltb, leb, List, [], ◌∷◌, length, get_or, drop, sym, refl, ap, ◌∙◌, subst, inl, inr, ⊎_elim, arith}
+use Rattle.std.proofs.Common.{◌≡◌, ℕ, zero, suc, ◌+◌, ◌-◌, ◌<◌, ◌≤◌, Bool, true, false, ◌&&◌, eqb, ltb, leb, List, [], ◌∷◌, length, get_or, take, drop, reverse, sym, refl, ap, ◌∙◌, subst, inl, inr, ⊎_elim, add-one, arith}
 use borrow.Author.Tests.{clash}
-use Rattle.std.proofs.lemmas.List.{at_drop_more, get_or_past}
+use Rattle.std.proofs.lemmas.List.{at_drop_more, get_or_past, get_or_default, get_or-reverse, get_or-take, length-reverse, length-take-le}
+use Rattle.std.proofs.Math.Bool.{and-false}
 use Rattle.std.proofs.lemmas.Bool.{cases_lt, leb-true, ltb-true, le-leb, lt-ltb, le-ltb, eq-eqb, eqb-true, and_parts, and_from}
+use Rattle.std.specs.List.{IsAllAdjacentAnswer}
 use Rattle.tariff.specs.Checks.{TestIsExact}
 use Rattle.recursion.specs.Staged.{In, Rising}
 use Rattle.recursion.specs.Speeds.{rises_from, last_from, lawful_speeds, LawfulList}
@@ -14,6 +16,24 @@ rises_stop ss i p h le =
 pub rises_step : (ss : List ℕ) (i p : ℕ) → i < length ss → p < get_or ss i 0 → rises_from (get_or ss i 0) (drop (i + 1) ss) ≡ rises_from p (drop i ss)
 rises_step ss i p h lt =
     sym (at_drop_more (rises_from p) ss i 0 h ∙ ap (λ (b : Bool). b && rises_from (get_or ss i 0) (drop (i + 1) ss)) (lt-ltb p (get_or ss i 0) lt))
+
+-- a list rises exactly if each element is below the next
+rises_each : (s : ℕ) (ss : List ℕ) → ((k : ℕ) → k < length ss → true ≡ ltb (get_or (s ∷ ss) k 0) (get_or ss k 0)) → true ≡ rises_from s ss
+rises_each s [] h = refl
+rises_each s (t ∷ ss) h = sym (and_from (ltb s t) (rises_from t ss) (sym (h 0 (omega arith))) (sym (rises_each t ss (λ k l. h (suc k) (omega arith)))))
+
+rises_not : (s : ℕ) (ss : List ℕ) (k : ℕ) → k < length ss → false ≡ ltb (get_or (s ∷ ss) k 0) (get_or ss k 0) → false ≡ rises_from s ss
+rises_not s [] k l h = absurd (omega arith)
+rises_not s (t ∷ ss) zero l h = ap (λ (b : Bool). b && rises_from t ss) h
+rises_not s (t ∷ ss) (suc k) l h = sym (and-false (ltb s t)) ∙ ap (λ (b : Bool). ltb s t && b) (rises_not t ss k (omega arith) h)
+
+pub rises_answer : (ss : List ℕ) (r : Bool) → IsAllAdjacentAnswer (λ x y b. b ≡ ltb x y) ss r → r ≡ rises_from (get_or ss 0 0) (drop 1 ss)
+rises_answer [] true h = refl
+rises_answer [] false h = absurd (omega (arith, h.1))
+rises_answer (s ∷ ss) true h =
+    rises_each s ss (λ k l. subst (λ (v : ℕ). true ≡ ltb (get_or (s ∷ ss) k 0) (get_or (s ∷ ss) v 0)) (add-one k) (h k 0 (omega arith)))
+rises_answer (s ∷ ss) false h =
+    rises_not s ss h.0 (omega (arith, h.1)) (subst (λ (v : ℕ). false ≡ ltb (get_or (s ∷ ss) h.0 0) (get_or (s ∷ ss) v 0)) (add-one h.0) (h.2 0))
 
 pub last_at : (s : ℕ) (ss : List ℕ) → last_from s ss ≡ get_or (s ∷ ss) (length ss) 0
 last_at s [] = refl
@@ -94,6 +114,16 @@ each_low ss top w i =
     (λ lt. omega (arith, w.under_top (get_or ss i 0) (in_at ss i lt), w.low_top))
     (λ ge. omega (arith, get_or_past ss i 0 ge))
     (cases_lt i (length ss))
+
+-- the speeds below the last, taken from the top down
+pub from_top : (ss : List ℕ) (k s : ℕ) → (k < length (reverse (take (length ss - 1) ss))) × (s ≡ get_or (reverse (take (length ss - 1) ss)) k s) → (k < length ss - 1) × (s ≡ get_or ss (length ss - 1 - (k + 1)) 0)
+from_top ss k s h =
+    let n = length ss - 1 in
+    let lower = take n ss in
+    let size : length lower ≡ n = length-take-le n ss (omega arith) in
+    let near : k < n = omega (arith, h.0, length-reverse lower, size) in
+    let place : length lower - 1 - k ≡ n - (k + 1) = omega (arith, size) in
+    (near, h.1 ∙ get_or_default (reverse lower) k s 0 h.0 ∙ get_or-reverse lower k 0 (omega (arith, size)) ∙ get_or-take n ss (length lower - 1 - k) 0 (omega (arith, size)) ∙ ap (λ (v : ℕ). get_or ss v 0) place)
 
 rises_true : (s : ℕ) (ss : List ℕ) → Rising (s ∷ ss) → rises_from s ss ≡ true
 rises_true s [] h = refl

@@ -1,15 +1,10 @@
--- Words: charges of a slot, rows. A row holds, for each work done that matters, the least measure from a slot on.
+-- Words: rows. A row holds, for each work done that matters, the least measure from a slot on.
 use Rattle.std.specs.Prelude.{◌≡◌, ℕ, suc, ◌+◌, ◌*◌, ◌<◌, ◌≤◌, min, cond, List, [], ◌∷◌, length, drop, nat_le, slice_index, slice_index_or}
-use Rattle.tariff.specs.Charges.{largest_charge}
 use Rattle.measure.specs.Kinds.{Kind}
 use Rattle.recursion.specs.Staged.{Best, none, best, lower, lowest, least}
 use Rattle.recursion.specs.Pumps.{Pump, decisions}
 use Rattle.recursion.specs.Windows.{reach_at, low_for}
 use Rattle.recursion.specs.declared.work.SlotWork.{SlotWork}
-
--- the charges of the listed speeds, in their order, none above the largest
-abbrev pub Charged : (ℕ → ℕ) → List ℕ → List ℕ → Type 0
-Charged charge speeds charges = (i : ℕ) → i < length speeds → (slice_index charges i ≡ charge (slice_index speeds i)) × (slice_index charges i ≤ largest_charge)
 
 -- what speed s, its charge of measure m, comes to from work done e, over the row of the next slot:
 -- nothing if it does less than is needed

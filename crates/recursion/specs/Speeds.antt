@@ -1,5 +1,5 @@
--- Words: lawful list of speeds, as a test and as what it means.
-use Rattle.std.specs.Prelude.{◌≡◌, ℕ, ◌≤◌, Bool, true, false, ◌&&◌, List, [], ◌∷◌, length, ◌==◌, nat_le, nat_lt, slice_index_or}
+-- Words: lawful list of speeds, as a test and as what it means; its top speed.
+use Rattle.std.specs.Prelude.{◌≡◌, ℕ, ◌-◌, ◌≤◌, Bool, true, false, ◌&&◌, List, [], ◌∷◌, length, ◌==◌, nat_le, nat_lt, slice_index, slice_index_or}
 use Rattle.recursion.specs.Staged.{In, Rising}
 
 -- the list rises strictly, from above s
@@ -17,6 +17,10 @@ abbrev pub lawful_speeds : List ℕ → Bool
 lawful_speeds [] = false
 lawful_speeds (s ∷ ss) =
     nat_le 2 (length (s ∷ ss)) && (nat_le (length (s ∷ ss)) 16 && (s == 0 && (rises_from s ss && nat_le (last_from s ss) 15)))
+
+-- the last speed, which is the fastest of a lawful list
+abbrev pub top_of : List ℕ → ℕ
+top_of ss = slice_index ss (length ss - 1)
 
 -- a list of speeds that keeps its rules
 pub record LawfulList (ss : List ℕ) : Type 0 where

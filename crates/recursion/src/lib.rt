@@ -4,6 +4,7 @@
 mod laws;
 mod planning;
 mod rows;
+mod slots;
 mod speeds;
 mod unplanned;
 mod windows;
@@ -14,5 +15,6 @@ pub use laws::{
     planned_speeds_are_best, same_order_same_plan, trials_hold,
 };
 pub use planning::plan;
+pub use speeds::lawful;
 pub use unplanned::Unplanned;
 pub use work::SlotWork;

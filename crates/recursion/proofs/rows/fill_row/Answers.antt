@@ -1,18 +1,43 @@
-use Rattle.std.proofs.Common.{arith}
+use Rattle.std.proofs.Common.{◌≡◌, ℕ, ◌+◌, ◌-◌, [], ◌∷◌, ◌++◌, length, get_or, take, sym, ap, ◌∙◌, arith}
+use Rattle.std.proofs.lemmas.List.{length_push, length-reverse, length-take-le}
+use Rattle.std.proofs.lemmas.Iterator.Adapters.{YieldsList-from_rev_slice}
+use Rattle.std.proofs.lemmas.Iterator.Consumers.{YieldsList-turn, YieldsList-end}
 use Rattle.recursion.proofs.Ranked.{ranked}
+use Rattle.recursion.proofs.Rising.{lawful_gives, each_low, from_top}
 use Rattle.recursion.proofs.Choosing.{picked_last, picked_before, picked_all}
 use Rattle.recursion.proofs.rows.fill_row.Goals as goal
 
-pub loop-i-init : goal.loop-i-init
-loop-i-init g c charge charged =
-    picked_last (ranked g.M.Measure.laws) charge c.args.window.arrived c.args.window.need c.args.next.now c.args.speeds.now
-    c.args.charges.now c.of.result c.args.window.low c.args.window.high c.start_row.new.picks c.start_row.new.row charged (omega (arith, c.requires.listed)) c.of.ensures c.start_row.ensures
+pub measure_at-requires : goal.measure_at-requires
+measure_at-requires g c =
+    let l = lawful_gives c.args.speeds.listed.now c.args.speeds.lawful in
+    (c.requires.slots, omega (arith, l.low_top, c.top-top.ensures))
 
-pub loop-i-preserved : goal.loop-i-preserved
-loop-i-preserved g c charge charged =
-    picked_before (ranked g.M.Measure.laws) charge c.args.window.arrived c.args.window.need c.args.next.now c.args.speeds.now
-    c.args.charges.now c.loop-i.i c.of-in-loop-i.result c.args.window.low c.args.window.high c.loop-i.picks c.lower_row.new.picks c.loop-i.row c.lower_row.new.row charged (omega arith) (omega arith) c.of-in-loop-i.ensures (c.loop-i.invariant charge charged) c.lower_row.ensures
+pub loop-speed-init : goal.loop-speed-init
+loop-speed-init g c =
+    let ss = c.args.speeds.listed.now in
+    let l = lawful_gives ss c.args.speeds.lawful in
+    picked_last (ranked g.M.Measure.laws) (g.T.Tariff.charge c.args.tariff.now c.args.slot) c.args.window.arrived c.args.window.need c.args.next.now ss
+    c.top-top.result _ c.measure_at.result c.args.window.low c.args.window.high c.start_row.new.picks c.start_row.new.row (omega (arith, l.some)) (omega arith) c.top-top.ensures c.measure_at.ensures c.start_row.ensures
+
+pub measure_at-requires-in-loop-speed : goal.measure_at-requires-in-loop-speed
+measure_at-requires-in-loop-speed g c =
+    let ss = c.args.speeds.listed.now in
+    let t = from_top ss _ _ (YieldsList-turn (YieldsList-from_rev_slice (take (length ss - 1) ss) cc) c.loop-speed.yielded _ c.loop-speed.yielded_by _ _ c.in-Some.speed c.in-Some.is c.next.ensures.steps) in
+    (c.requires.slots, omega (arith, t.1, each_low ss _ (lawful_gives ss c.args.speeds.lawful) (length ss - 1 - (length c.loop-speed.yielded + 1))))
+
+pub loop-speed-preserved : goal.loop-speed-preserved
+loop-speed-preserved g c =
+    let ss = c.args.speeds.listed.now in
+    let k = length c.loop-speed.yielded in
+    let t = from_top ss k c.in-Some.speed.now (YieldsList-turn (YieldsList-from_rev_slice (take (length ss - 1) ss) cc) c.loop-speed.yielded _ c.loop-speed.yielded_by _ _ c.in-Some.speed c.in-Some.is c.next.ensures.steps) in
+    let more : length ss - 1 - length (c.loop-speed.yielded ++ (c.in-Some.speed ∷ [])) ≡ length ss - 1 - (k + 1) = ap (λ (v : ℕ). length ss - 1 - v) (length_push c.loop-speed.yielded c.in-Some.speed) in
+    picked_before (ranked g.M.Measure.laws) (g.T.Tariff.charge c.args.tariff.now c.args.slot) c.args.window.arrived c.args.window.need c.args.next.now ss
+    c.in-Some.speed.now _ (length ss - 1 - k) c.measure_at-in-loop-speed.result c.args.window.low c.args.window.high c.loop-speed.picks c.lower_row.new.picks c.loop-speed.row c.lower_row.new.row
+    (omega (arith, t.0, more)) (omega arith) (t.1 ∙ ap (λ (v : ℕ). get_or ss v 0) (sym more)) c.measure_at-in-loop-speed.ensures c.loop-speed.invariant c.lower_row.ensures
 
 pub returns : goal.returns
-returns g c charge charged =
-    picked_all (ranked g.M.Measure.laws) charge c.args.window.arrived c.args.window.need c.args.next.now c.args.speeds.now c.loop-i.i c.args.window.low c.args.window.high c.loop-i.picks c.loop-i.row c.loop-i-test.false (c.loop-i.invariant charge charged)
+returns g c =
+    let ss = c.args.speeds.listed.now in
+    let t = YieldsList-end (YieldsList-from_rev_slice (take (length ss - 1) ss) cc) c.loop-speed.yielded _ c.loop-speed.yielded_by _ _ c.in-None.is c.next.ensures.steps in
+    picked_all (ranked g.M.Measure.laws) (g.T.Tariff.charge c.args.tariff.now c.args.slot) c.args.window.arrived c.args.window.need c.args.next.now ss
+    (length ss - 1 - length c.loop-speed.yielded) c.args.window.low c.args.window.high c.loop-speed.picks c.loop-speed.row (omega (arith, t.1, length-reverse (take (length ss - 1) ss), length-take-le (length ss - 1) ss (omega arith))) c.loop-speed.invariant
