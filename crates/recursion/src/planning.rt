@@ -93,7 +93,7 @@ pub fn plan<T: Tariff, M: Measure>(
     ensures measures { KeptUnlessPlanned result measures.old measures.new }
 {
     let slots = SlotsLeft::checked(first, work, chosen.len())?;
-    let speeds = LawfulSpeeds::checked(speeds)?;
+    let speeds = LawfulSpeeds::try_from(speeds)?;
     slots.fit_in(bytes.len(), measures.len())?;
     let reach = slots.reach_at_top(speeds.top())?;
     let least = fill(tariff, speeds, slots, &reach, bytes, measures);

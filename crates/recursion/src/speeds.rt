@@ -29,18 +29,21 @@ pub(crate) struct LawfulSpeeds<'a> {
     ghost lawful: { lawful_speeds listed.now ≡ true },
 }
 
-impl<'a> LawfulSpeeds<'a> {
-    // The list, if it keeps the rules.
-    pub(crate) fn checked(speeds: &'a [u8]) -> Result<Self, Unplanned>
-        ensures { MatchResult result (λ l. l.listed.now ≡ speeds.now) (λ e. (e ≡ Speeds) × (lawful_speeds speeds.now ≡ false)) }
-    {
+impl<'a> TryFrom<&'a [u8]> for LawfulSpeeds<'a> {
+    type Error = Unplanned;
+
+    ghost try_from_gives = { λ s r. MatchResult r (λ l. l.listed.now ≡ s.now) (λ e. (e ≡ Speeds) × (lawful_speeds s.now ≡ false)) };
+
+    fn try_from(speeds: &'a [u8]) -> Result<Self, Unplanned> {
         if lawful(speeds) {
             Ok(LawfulSpeeds { listed: speeds })
         } else {
             Err(Unplanned::Speeds)
         }
     }
+}
 
+impl<'a> LawfulSpeeds<'a> {
     // The fastest speed.
     pub(crate) fn top(self) -> u8
         ensures { result ≡ top_of self.entry.listed.now }
