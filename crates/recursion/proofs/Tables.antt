@@ -1,6 +1,6 @@
 -- A turn of the loop over the slots: one row more of the table, one measure row for another.
 use Rattle.std.proofs.Common.{◌≡◌, ℕ, zero, suc, ◌+◌, ◌-◌, ◌*◌, ◌<◌, ◌≤◌, min, max, true, List, [], ◌∷◌, ◌++◌, length, get_or, take, drop, sym, ap, ◌∙◌, subst, ⊎_elim, mul-le-mul_right, add-mul, one-mul, add-one, arith}
-use Rattle.std.proofs.lemmas.List.{drop_more, drop_all, get_or_append_left, get_or-append_right, get_or-drop, get_or_read, length-take, length-take-le, length-drop}
+use Rattle.std.proofs.lemmas.List.{drop_more, take_more, length_push, same_from_push, drop_all, get_or_append_left, get_or-append_right, get_or-drop, get_or_read, length-take, length-take-le, length-drop}
 use Rattle.std.proofs.lemmas.Bool.{cases_lt}
 use Rattle.measure.specs.Kinds.{Kind}
 use Rattle.recursion.specs.Staged.{best, least, In}
@@ -66,13 +66,11 @@ module _ {M : Type 0} (q : Kind M) (y : Pump) (top : ℕ) (tops : (s : ℕ) → 
         table = λ j e h i l r. absurd (omega arith);
       }
 
-  pub filled_next : (l : ℕ) (next row : List M) (bytes picks : List ℕ) (low need low' : ℕ) → 0 < l → l ≤ length work → Filled q y top first work width next bytes low l →
-      need ≡ max (due_at work (l - 1)) low → low' ≡ need - top → most_arrived work < width → length picks ≡ width → length work * width ≤ length bytes →
-      Picked q (y.charge (first + (l - 1))) (arrived_at work (l - 1)) need next y.speeds low' (reach_at top work 0 (l - 1)) row picks →
-      Filled q y top first work width row (take ((l - 1) * width) bytes ++ (picks ++ drop (((l - 1) + 1) * width - (l - 1) * width) (drop ((l - 1) * width) bytes))) low' (l - 1)
-  filled_next l next row bytes picks low need low' some within inv needed lowered wide size fits picked =
-      let i = l - 1 in
-      let on : l ≡ i + 1 = omega arith in
+  pub filled_next : (i l : ℕ) (next row : List M) (bytes picks : List ℕ) (low need low' : ℕ) → l ≡ i + 1 → l ≤ length work → Filled q y top first work width next bytes low l →
+      need ≡ max (due_at work i) low → low' ≡ need - top → most_arrived work < width → length picks ≡ width → length work * width ≤ length bytes →
+      Picked q (y.charge (first + i)) (arrived_at work i) need next y.speeds low' (reach_at top work 0 i) row picks →
+      Filled q y top first work width row (take (i * width) bytes ++ (picks ++ drop ((i + 1) * width - i * width) (drop (i * width) bytes))) low' i
+  filled_next i l next row bytes picks low need low' on within inv needed lowered wide size fits picked =
       let inside : i < length work = omega arith in
       let w = get_or work i no_work in
       let ws = drop (i + 1) work in
@@ -116,19 +114,17 @@ module _ {M : Type 0} (q : Kind M) (y : Pump) (top : ℕ) (tops : (s : ℕ) → 
             (cases_lt i j);
       }
 
--- what filling the slot at place l - 1 asks
-pub record Asked (top : ℕ) (work : List SlotWork) (l need low width : ℕ) : Type 0 where
-  pub arrived_in : arrived_at work (l - 1) < width
-  pub ordered : low ≤ reach_at top work 0 (l - 1)
-  pub high_in : reach_at top work 0 (l - 1) < width
-  pub enough : need ≤ min (low + top) (arrived_at work (l - 1))
-  pub wide : ((l - 1) + 1) * width ≡ (l - 1) * width + width
-  pub last : ((l - 1) + 1) * width ≤ length work * width
+-- what filling the slot at place i asks
+pub record Asked (top : ℕ) (work : List SlotWork) (i need low width : ℕ) : Type 0 where
+  pub arrived_in : arrived_at work i < width
+  pub ordered : low ≤ reach_at top work 0 i
+  pub high_in : reach_at top work 0 i < width
+  pub enough : need ≤ min (low + top) (arrived_at work i)
+  pub wide : (i + 1) * width ≡ i * width + width
+  pub last : (i + 1) * width ≤ length work * width
 
-pub asked : (top : ℕ) (work : List SlotWork) (low l need low' width : ℕ) → 0 < l → l ≤ length work → keeps_up top work 0 ≡ true → low ≡ low_for top (drop l work) → need ≡ max (due_at work (l - 1)) low → low' ≡ need - top → width ≡ most_arrived work + 1 → Asked top work l need low' width
-asked top work low l need low' width some within up low_is needed lowered wide =
-    let i = l - 1 in
-    let on : l ≡ i + 1 = omega arith in
+pub asked : (top : ℕ) (work : List SlotWork) (low i l need low' width : ℕ) → l ≡ i + 1 → l ≤ length work → keeps_up top work 0 ≡ true → low ≡ low_for top (drop l work) → need ≡ max (due_at work i) low → low' ≡ need - top → width ≡ most_arrived work + 1 → Asked top work i need low' width
+asked top work low i l need low' width on within up low_is needed lowered wide =
     let room = slot_room top work i (omega arith) up in
     let need_is : need ≡ max (due_at work i) (low_for top (drop (i + 1) work)) = needed ∙ ap (max (due_at work i)) (low_is ∙ ap (λ (v : ℕ). low_for top (drop v work)) on) in
     let near : need ≤ arrived_at work i = subst (λ (v : ℕ). v ≤ arrived_at work i) (sym need_is) room.enough in
@@ -141,6 +137,22 @@ asked top work low l need low' width some within up low_is needed lowered wide =
       wide = add-mul i 1 width ∙ ap (λ (v : ℕ). i * width + v) (one-mul width);
       last = mul-le-mul_right width (omega arith);
     }
+
+-- the slots still to come are the first ones; the last of them is next
+pub record LastOf (work rest rest' : List SlotWork) (w : SlotWork) : Type 0 where
+  pub first_ones : rest' ≡ take (length rest') work
+  pub one_more : length rest ≡ length rest' + 1
+  pub within : length rest ≤ length work
+  pub here : w ≡ get_or work (length rest') no_work
+
+pub last_of : (work rest rest' : List SlotWork) (w : SlotWork) → rest ≡ take (length rest) work → rest ≡ rest' ++ (w ∷ []) → LastOf work rest rest' w
+last_of work rest rest' w first_ones more =
+    let n = length rest' in
+    let size : length rest ≡ n + 1 = ap length more ∙ length_push rest' w in
+    let within : length rest ≤ length work = omega (arith, ap length first_ones, length-take (length rest) work) in
+    let cut : rest' ++ (w ∷ []) ≡ take n work ++ (get_or work n no_work ∷ []) = sym more ∙ first_ones ∙ ap (λ (v : ℕ). take v work) size ∙ take_more work n no_work (omega arith) in
+    let both = same_from_push rest' (take n work) w (get_or work n no_work) cut in
+    record { first_ones = both.0; one_more = size; within = within; here = both.1 }
 
 pub row_size : (bytes : List ℕ) (a b width : ℕ) → b ≡ a + width → b ≤ length bytes → length (take (b - a) (drop a bytes)) ≡ width
 row_size bytes a b width e h = simp (length-take, length-drop) (omega arith)

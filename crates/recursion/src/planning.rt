@@ -25,14 +25,6 @@ fn last_row<M: Measure>(row: &mut [M], high: usize)
     row[..high + 1].fill_with(|| nought);
 }
 
-// The work that has to be done by the end of the slot at place i: what is due by then, and what the rest needs.
-fn needed_by(work: &[SlotWork], i: usize, low: usize) -> usize
-    requires { i < length work.now }
-    ensures { result ≡ max (due_at work.now i) low }
-{
-    (work[i].due as usize).max(low)
-}
-
 // Fills the table of speeds, a row for each slot, and answers the least measure from the first slot on.
 // Of the measures only two rows are kept, the next slot's and this one's, in turn.
 fn fill<T: Tariff, M: Measure>(
@@ -55,14 +47,14 @@ fn fill<T: Tariff, M: Measure>(
     let (mut next, mut row) = measures.split_at_mut(width);
     last_row(next, reach[work.len()]);
     let mut low = 0;
-    for i in (0..work.len()).rev() {
-        let need = needed_by(work, i, low);
+    for (i, slot) in work.iter().enumerate().rev() {
+        let need = (slot.due as usize).max(low);
         low = need.saturating_sub(top);
         let window = Window {
             low,
             high: reach[i],
             need,
-            arrived: work[i].arrived as usize,
+            arrived: slot.arrived as usize,
         };
         let picks = &mut bytes[i * width..(i + 1) * width];
         fill_row(tariff, speeds, slots.first + i, window, next, row, picks);

@@ -1,12 +1,13 @@
-use Rattle.std.proofs.Common.{◌≡◌, ℕ, ◌+◌, ◌-◌, ◌*◌, ◌≤◌, length, get_or, sym, ◌∙◌, subst, arith}
-use Rattle.std.proofs.lemmas.List.{length-take, length-drop}
+use Rattle.std.proofs.Common.{◌≡◌, ℕ, ◌+◌, ◌-◌, ◌*◌, ◌≤◌, max, List, ◌++◌, take, drop, length, get_or, sym, ap, ◌∙◌, subst, arith}
+use Rattle.std.proofs.lemmas.List.{length-take, length-drop, take_all}
 use Rattle.recursion.specs.Windows.{reach_at}
 use Rattle.recursion.specs.Rows.{Picked}
 use Rattle.recursion.specs.Speeds.{top_of}
-use Rattle.recursion.specs.Work.{arrived_at, pump_of}
+use Rattle.recursion.specs.Work.{no_work, arrived_at, due_at, pump_of}
+use Rattle.recursion.specs.declared.work.SlotWork.{SlotWork}
 use Rattle.recursion.proofs.Feeding.{feeds_pump}
 use Rattle.recursion.proofs.Rising.{lawful_gives}
-use Rattle.recursion.proofs.Tables.{reach_most, row_size, asked, filled_first, filled_last, filled_next}
+use Rattle.recursion.proofs.Tables.{Filled, reach_most, row_size, asked, last_of, filled_first, filled_last, filled_next}
 use Rattle.recursion.proofs.planning.fill.Goals as goal
 
 pub last_row-requires : goal.last_row-requires
@@ -19,50 +20,82 @@ loop-i-init g c =
     let ss = c.args.speeds.listed.now in
     let work = c.args.slots.work.now in
     let first = c.args.slots.first in
-    let charge = g.T.Tariff.charge c.args.tariff.now in (
-      filled_last g.M.Measure.kind (pump_of ss first work charge) (top_of ss) (lawful_gives ss c.args.speeds.lawful).under_top first work (feeds_pump ss first work charge) c.args.slots.width
-          c.last_row.new.row c.args.bytes.now (λ e h. c.last_row.ensures e (subst (λ (v : ℕ). e ≤ v) (sym (c.requires.reached (length work) (omega arith))) h)),
+    let charge = g.T.Tariff.charge c.args.tariff.now in
+    let y = pump_of ss first work charge in
+    let whole : c.into_iter-i-iterator.result.iter.iter.rest.now ≡ work = cc in
+    let filled = filled_last g.M.Measure.kind y (top_of ss) (lawful_gives ss c.args.speeds.lawful).under_top first work (feeds_pump ss first work charge) c.args.slots.width
+    c.last_row.new.row c.args.bytes.now (λ e h. c.last_row.ensures e (subst (λ (v : ℕ). e ≤ v) (sym (c.requires.reached (length work) (omega arith))) h)) in (
+      cc,
+      whole ∙ sym (ap (λ (v : List SlotWork). take (length v) work) whole ∙ take_all (length work) work (omega arith)),
+      subst (λ (v : List SlotWork). Filled g.M.Measure.kind y (top_of ss) first work c.args.slots.width c.last_row.new.row c.args.bytes.now 0 (length v)) (sym whole) filled,
       omega arith,
       omega arith,
     )
 
 pub invariant_of-window : goal.invariant_of-window
 invariant_of-window g c =
+    let ss = c.args.speeds.listed.now in
     let work = c.args.slots.work.now in
-    let top = top_of c.args.speeds.listed.now in
-    let i = c.loop-i.i in
-    let a = asked top work c.loop-i.low i c.needed_by-need.result c.saturating_sub-low.result c.args.slots.width (omega arith) (omega arith) c.requires.possible c.loop-i.invariant.0.low_is c.needed_by-need.ensures (omega (arith, c.saturating_sub-low.ensures, c.top-top.ensures)) c.args.slots.wide in
-    let high : get_or c.args.reach.now (i - 1) 0 ≡ reach_at top work 0 (i - 1) = c.requires.reached (i - 1) (omega arith) in
-    record { near = omega (arith, a.high_in); told = omega (arith, a.arrived_in); enough = omega (arith, a.enough) }
+    let top = top_of ss in
+    let i = c.in-Some.i in
+    let inv = c.loop-i.invariant in
+    let last = last_of work c.loop-i.i-iterator.iter.iter.rest.now c.next.new.self.iter.iter.rest.now c.in-Some.slot.now inv.1 c.in-Some.ensures.steps.1.0 in
+    let at : length c.next.new.self.iter.iter.rest.now ≡ i = omega (arith, c.in-Some.ensures.steps.1.1, inv.0) in
+    let need = c.max-need.result in
+    let low = c.saturating_sub-low.result in
+    let needed : need ≡ max (due_at work i) c.loop-i.low = c.max-need.ensures ∙ ap (λ (w : SlotWork). max w.due c.loop-i.low) (last.here ∙ ap (λ (v : ℕ). get_or work v no_work) at) in
+    let lowered : low ≡ need - top = omega (arith, c.saturating_sub-low.ensures, c.top-top.ensures) in
+    let a = asked top work c.loop-i.low i (length c.loop-i.i-iterator.iter.iter.rest.now) need low c.args.slots.width (omega (arith, last.one_more, at)) last.within c.requires.possible inv.2.low_is needed lowered c.args.slots.wide in
+    let high : get_or c.args.reach.now i 0 ≡ reach_at top work 0 i = c.requires.reached i (omega (arith, last.within, last.one_more, at)) in
+    let arrived : c.in-Some.slot.now.arrived ≡ arrived_at work i = ap (λ (w : SlotWork). w.arrived) (last.here ∙ ap (λ (v : ℕ). get_or work v no_work) at) in
+    record { near = omega (arith, high, a.high_in); told = omega (arith, a.arrived_in, arrived); enough = omega (arith, a.enough, arrived) }
 
 pub fill_row-requires-clause-inside : goal.fill_row-requires-clause-inside
 fill_row-requires-clause-inside g c =
+    let ss = c.args.speeds.listed.now in
     let work = c.args.slots.work.now in
-    let top = top_of c.args.speeds.listed.now in
-    let i = c.loop-i.i in
-    let a = asked top work c.loop-i.low i c.needed_by-need.result c.saturating_sub-low.result c.args.slots.width (omega arith) (omega arith) c.requires.possible c.loop-i.invariant.0.low_is c.needed_by-need.ensures (omega (arith, c.saturating_sub-low.ensures, c.top-top.ensures)) c.args.slots.wide in
-    let high : get_or c.args.reach.now (i - 1) 0 ≡ reach_at top work 0 (i - 1) = c.requires.reached (i - 1) (omega arith) in
-    (omega (arith, a.arrived_in), omega (arith, a.high_in), simp (length-take, length-drop) (omega (arith, a.high_in, a.wide, a.last, c.loop-i.auto.bytes, c.requires.memory.0)))
+    let top = top_of ss in
+    let i = c.in-Some.i in
+    let inv = c.loop-i.invariant in
+    let last = last_of work c.loop-i.i-iterator.iter.iter.rest.now c.next.new.self.iter.iter.rest.now c.in-Some.slot.now inv.1 c.in-Some.ensures.steps.1.0 in
+    let at : length c.next.new.self.iter.iter.rest.now ≡ i = omega (arith, c.in-Some.ensures.steps.1.1, inv.0) in
+    let need = c.max-need.result in
+    let low = c.saturating_sub-low.result in
+    let needed : need ≡ max (due_at work i) c.loop-i.low = c.max-need.ensures ∙ ap (λ (w : SlotWork). max w.due c.loop-i.low) (last.here ∙ ap (λ (v : ℕ). get_or work v no_work) at) in
+    let lowered : low ≡ need - top = omega (arith, c.saturating_sub-low.ensures, c.top-top.ensures) in
+    let a = asked top work c.loop-i.low i (length c.loop-i.i-iterator.iter.iter.rest.now) need low c.args.slots.width (omega (arith, last.one_more, at)) last.within c.requires.possible inv.2.low_is needed lowered c.args.slots.wide in
+    let high : get_or c.args.reach.now i 0 ≡ reach_at top work 0 i = c.requires.reached i (omega (arith, last.within, last.one_more, at)) in
+    let arrived : c.in-Some.slot.now.arrived ≡ arrived_at work i = ap (λ (w : SlotWork). w.arrived) (last.here ∙ ap (λ (v : ℕ). get_or work v no_work) at) in
+    (omega (arith, a.arrived_in, arrived, inv.3), omega (arith, high, a.high_in, inv.4), simp (length-take, length-drop) (omega (arith, high, a.high_in, a.wide, a.last, c.loop-i.auto.bytes, c.requires.memory.0)))
 
 pub loop-i-preserved : goal.loop-i-preserved
 loop-i-preserved g c =
-    let q = g.M.Measure.kind in
-    let charge = g.T.Tariff.charge c.args.tariff.now in
     let ss = c.args.speeds.listed.now in
     let work = c.args.slots.work.now in
+    let top = top_of ss in
+    let i = c.in-Some.i in
+    let inv = c.loop-i.invariant in
+    let last = last_of work c.loop-i.i-iterator.iter.iter.rest.now c.next.new.self.iter.iter.rest.now c.in-Some.slot.now inv.1 c.in-Some.ensures.steps.1.0 in
+    let at : length c.next.new.self.iter.iter.rest.now ≡ i = omega (arith, c.in-Some.ensures.steps.1.1, inv.0) in
+    let need = c.max-need.result in
+    let low = c.saturating_sub-low.result in
+    let needed : need ≡ max (due_at work i) c.loop-i.low = c.max-need.ensures ∙ ap (λ (w : SlotWork). max w.due c.loop-i.low) (last.here ∙ ap (λ (v : ℕ). get_or work v no_work) at) in
+    let lowered : low ≡ need - top = omega (arith, c.saturating_sub-low.ensures, c.top-top.ensures) in
+    let a = asked top work c.loop-i.low i (length c.loop-i.i-iterator.iter.iter.rest.now) need low c.args.slots.width (omega (arith, last.one_more, at)) last.within c.requires.possible inv.2.low_is needed lowered c.args.slots.wide in
+    let high : get_or c.args.reach.now i 0 ≡ reach_at top work 0 i = c.requires.reached i (omega (arith, last.within, last.one_more, at)) in
+    let arrived : c.in-Some.slot.now.arrived ≡ arrived_at work i = ap (λ (w : SlotWork). w.arrived) (last.here ∙ ap (λ (v : ℕ). get_or work v no_work) at) in
+    let q = g.M.Measure.kind in
+    let charge = g.T.Tariff.charge c.args.tariff.now in
     let first = c.args.slots.first in
     let width = c.args.slots.width in
-    let top = top_of ss in
-    let i = c.loop-i.i in
-    let need = c.needed_by-need.result in
-    let low = c.saturating_sub-low.result in
-    let lowered : low ≡ need - top = omega (arith, c.saturating_sub-low.ensures, c.top-top.ensures) in
-    let a = asked top work c.loop-i.low i need low width (omega arith) (omega arith) c.requires.possible c.loop-i.invariant.0.low_is c.needed_by-need.ensures lowered c.args.slots.wide in
-    let high : get_or c.args.reach.now (i - 1) 0 ≡ reach_at top work 0 (i - 1) = c.requires.reached (i - 1) (omega arith) in
-    let picked = subst (λ (v : ℕ). Picked q (charge (first + (i - 1))) (arrived_at work (i - 1)) need c.loop-i.next.now ss low v c.fill_row.new.row c.fill_row.new.picks) high c.fill_row.ensures in (
-      filled_next q (pump_of ss first work charge) top (lawful_gives ss c.args.speeds.lawful).under_top first work (feeds_pump ss first work charge) width i c.loop-i.next.now c.fill_row.new.row c.loop-i.bytes c.fill_row.new.picks c.loop-i.low need low (omega arith) (omega arith) c.loop-i.invariant.0 c.needed_by-need.ensures lowered (omega (arith, c.args.slots.wide)) (c.fill_row.auto.picks ∙ row_size c.loop-i.bytes ((i - 1) * width) ((i - 1 + 1) * width) width a.wide (omega (arith, a.last, c.loop-i.auto.bytes, c.requires.memory.0))) (omega (arith, c.loop-i.auto.bytes, c.requires.memory.0)) picked,
-      omega arith,
-      omega arith,
+    let y = pump_of ss first work charge in
+    let picked = subst (λ (v : ℕ). Picked q (charge (first + i)) v need c.loop-i.next.now ss low (reach_at top work 0 i) c.fill_row.new.row c.fill_row.new.picks) arrived (subst (λ (v : ℕ). Picked q (charge (first + i)) c.in-Some.slot.now.arrived need c.loop-i.next.now ss low v c.fill_row.new.row c.fill_row.new.picks) high c.fill_row.ensures) in
+    let filled = filled_next q y top (lawful_gives ss c.args.speeds.lawful).under_top first work (feeds_pump ss first work charge) width i (length c.loop-i.i-iterator.iter.iter.rest.now) c.loop-i.next.now c.fill_row.new.row c.loop-i.bytes c.fill_row.new.picks c.loop-i.low need low (omega (arith, last.one_more, at)) last.within inv.2 needed lowered (omega (arith, c.args.slots.wide)) (c.fill_row.auto.picks ∙ row_size c.loop-i.bytes (i * width) ((i + 1) * width) width a.wide (omega (arith, a.last, c.loop-i.auto.bytes, c.requires.memory.0))) (omega (arith, c.loop-i.auto.bytes, c.requires.memory.0)) picked in (
+      omega (arith, c.in-Some.ensures.steps.0, inv.0),
+      last.first_ones,
+      subst (λ (v : ℕ). Filled q y top first work width c.fill_row.new.row (take (i * width) c.loop-i.bytes ++ (c.fill_row.new.picks ++ drop ((i + 1) * width - i * width) (drop (i * width) c.loop-i.bytes))) low v) (sym at) filled,
+      omega (arith, c.fill_row.auto.row, inv.4),
+      inv.3,
     )
 
 pub returns : goal.returns
@@ -70,7 +103,9 @@ returns g c =
     let ss = c.args.speeds.listed.now in
     let work = c.args.slots.work.now in
     let first = c.args.slots.first in
+    let inv = c.loop-i.invariant in
+    let end : length c.loop-i.i-iterator.iter.iter.rest.now ≡ 0 = omega (arith, c.in-None.ensures.steps.1.0) in
     record {
-      table = λ j e h k from to. c.loop-i.invariant.0.table j e (omega arith) k from to;
-      answer = filled_first g.M.Measure.kind (pump_of ss first work (g.T.Tariff.charge c.args.tariff.now)) (top_of ss) first work c.args.slots.width c.loop-i.next.now c.loop-i.bytes c.loop-i.low c.loop-i.i c.index-next-0.result c.loop-i-test.false c.requires.possible (omega arith) c.index-next-0.is c.loop-i.invariant.0;
+      table = λ j e h k from to. inv.2.table j e (omega arith) k from to;
+      answer = filled_first g.M.Measure.kind (pump_of ss first work (g.T.Tariff.charge c.args.tariff.now)) (top_of ss) first work c.args.slots.width c.loop-i.next.now c.loop-i.bytes c.loop-i.low (length c.loop-i.i-iterator.iter.iter.rest.now) c.index-next-0.result (omega arith) c.requires.possible (omega arith) c.index-next-0.is inv.2;
     }
