@@ -1,10 +1,13 @@
 -- A job entered: its place, and the array with the jobs behind it moved on.
-use Rattle.std.proofs.Common.{◌≡◌, ℕ, zero, suc, ◌+◌, ◌<◌, ◌≤◌, true, false, List, [], ◌∷◌, ◌++◌, length, get_or, take, drop, set, sym, refl, ap, ◌∙◌, append_assoc, add-one, arith}
-use Rattle.std.proofs.lemmas.List.{take_more, drop_more, get_or-set_same}
-use Rattle.std.proofs.lemmas.Bool.{cond-true, cond-false}
+use Rattle.std.proofs.Common.{◌≡◌, ℕ, suc, ◌+◌, ◌-◌, ◌<◌, ◌≤◌, Bool, true, false, cond, not, ltb, List, [], ◌∷◌, ◌++◌, length, take, drop, set, Some, None, unwrap_or, sym, refl, ap, ◌∙◌, append_assoc, arith, length-drop, length-take-le, take-take}
+use Rattle.std.specs.List.{copy_within, position, position_or_len, prefix_len}
+use Rattle.std.proofs.Math.Seq.{take-set-lt}
+use Rattle.std.proofs.lemmas.List.{drop-take, take_more_set, set-append_left}
+use Rattle.std.proofs.lemmas.List.Edits.{take-paste}
+use Rattle.std.proofs.lemmas.List.Sums.{prefix_len-le-length}
+use Rattle.std.proofs.lemmas.Bool.{cond_both, ltb-false}
 use Rattle.ledger.specs.declared.job.Job.{Job}
 use Rattle.ledger.specs.Queue.{before, enter}
-use Rattle.stay.specs.Jobs.{blank}
 
 -- a queue with the job j put in at place p
 abbrev pub with_job : ℕ → Job → List Job → List Job
@@ -12,54 +15,37 @@ with_job p j q = take p q ++ (j ∷ drop p q)
 
 -- ## The place
 
-pub place_here : (j x : Job) (q rest : List Job) (i : ℕ) → drop i q ≡ x ∷ rest → before x j ≡ false → take i q ++ enter j (drop i q) ≡ enter j q → enter j q ≡ with_job i j q
-place_here j x q rest i e f h =
-    sym h ∙ ap (λ v. take i q ++ v) (ap (enter j) e ∙ cond-false (before x j) (x ∷ enter j rest) (j ∷ x ∷ rest) f ∙ ap (λ v. j ∷ v) (sym e))
+pub first_or_end : (p : Job → Bool) (q : List Job) (n : ℕ) → length q ≡ n → unwrap_or (position p q) n ≡ position_or_len p q
+first_or_end p q n e =
+    let i = position_or_len p q in
+    let le : i ≤ length q = prefix_len-le-length (λ x. not (p x)) q in
+    cond_both (ltb i (length q)) (Some i) None (λ o. unwrap_or o n ≡ i) (λ _. refl) (λ no. omega (arith, ltb-false i (length q) no))
 
-pub place_on : (j : Job) (q : List Job) (i : ℕ) → i < length q → before (get_or q i blank) j ≡ true → take i q ++ enter j (drop i q) ≡ enter j q → take (i + 1) q ++ enter j (drop (i + 1) q) ≡ enter j q
-place_on j q i l t h =
-    let x = get_or q i blank in
-    let rest = drop (i + 1) q in
-    ap (λ v. v ++ enter j rest) (take_more q i blank l) ∙ append_assoc (take i q) (x ∷ []) (enter j rest)
-    ∙ ap (λ v. take i q ++ v) (sym (ap (enter j) (drop_more q i blank l) ∙ cond-true (before x j) (x ∷ enter j rest) (j ∷ x ∷ rest) t))
-    ∙ h
-
-pub place_end : (j : Job) (q : List Job) (i : ℕ) → drop i q ≡ [] → take i q ++ enter j (drop i q) ≡ enter j q → enter j q ≡ with_job i j q
-place_end j q i e h = sym h ∙ ap (λ v. take i q ++ v) (ap (enter j) e ∙ ap (λ v. j ∷ v) (sym e))
+-- j goes in front of the first job that neither goes before it nor is level with it
+pub enter_at : (j : Job) (q : List Job) → enter j q ≡ with_job (position_or_len (λ i. not (before i j)) q) j q
+enter_at j [] = refl
+enter_at j (i ∷ q) =
+    let n = prefix_len (λ x. not (not (before x j))) q in
+    let e : suc n ≡ 1 + n = omega arith in
+    elim (before i j) as (λ b. cond b (i ∷ enter j q) (j ∷ i ∷ q) ≡ with_job (cond (not (not b)) (1 + n) 0) j (i ∷ q)) [
+      | true ↦ ap (λ v. i ∷ v) (enter_at j q) ∙ ap (λ (k : ℕ). with_job k j (i ∷ q)) e
+      | false ↦ refl
+    ]
 
 -- ## The array
 
-first_with : (js : List Job) (p : ℕ) (x : Job) → p < length js → take (suc p) (set js p x) ≡ take (suc p) (with_job p x js)
-first_with [] p x h = absurd (omega arith)
-first_with (j ∷ q) zero x h = refl
-first_with (j ∷ q) (suc p) x h = ap (λ v. j ∷ v) (first_with q p x (omega arith))
-
-pub get_d_with : (js : List Job) (p i : ℕ) (x d : Job) → p ≤ i → get_or (with_job p x js) (suc i) d ≡ get_or js i d
-get_d_with [] zero i x d h = refl
-get_d_with [] (suc p) i x d h = refl
-get_d_with (j ∷ q) zero i x d h = refl
-get_d_with (j ∷ q) (suc p) zero x d h = absurd (omega arith)
-get_d_with (j ∷ q) (suc p) (suc i) x d h = get_d_with q p i x d (omega arith)
-
-pub length_with : (js : List Job) (p : ℕ) (x : Job) → length (with_job p x js) ≡ suc (length js)
-length_with [] zero x = refl
-length_with [] (suc p) x = refl
-length_with (j ∷ q) zero x = refl
-length_with (j ∷ q) (suc p) x = ap suc (length_with q p x)
-
-take_with : (js : List Job) (p n : ℕ) (x : Job) → p ≤ n → take (suc n) (with_job p x js) ≡ with_job p x (take n js)
-take_with js zero n x h = refl
-take_with js (suc p) zero x h = absurd (omega arith)
-take_with [] (suc p) (suc n) x h = refl
-take_with (j ∷ q) (suc p) (suc n) x h = ap (λ v. j ∷ v) (take_with q p n x (omega arith))
-
-pub with_start : (js : List Job) (p : ℕ) (x : Job) → p < length js → take (p + 1) (set js p x) ≡ take (p + 1) (with_job p (get_or (set js p x) p blank) js)
-with_start js p x h =
-    ap (λ (n : ℕ). take n (set js p x)) (add-one p) ∙ first_with js p x h
-    ∙ ap (λ (v : Job). take (suc p) (with_job p v js)) (sym (get_or-set_same js p x blank h))
-    ∙ ap (λ (n : ℕ). take n (with_job p (get_or (set js p x) p blank) js)) (sym (add-one p))
-
-pub with_end : (js out : List Job) (p n : ℕ) (x : Job) → p < length js → p ≤ n → take (n + 1) out ≡ take (n + 1) (with_job p (get_or (set js p x) p blank) js) → take (n + 1) out ≡ with_job p x (take n js)
-with_end js out p n x h l e =
-    e ∙ ap (λ (v : Job). take (n + 1) (with_job p v js)) (get_or-set_same js p x blank h)
-    ∙ ap (λ (m : ℕ). take m (with_job p x js)) (add-one n) ∙ take_with js p n x l
+pub entered_array : (js : List Job) (p n : ℕ) (j : Job) → p ≤ n → n < length js → take (n + 1) (set (copy_within js p n (p + 1)) p j) ≡ with_job p j (take n js)
+entered_array js p n j a b =
+    let out = copy_within js p n (p + 1) in
+    let behind = take (n - p) (drop p js) in
+    let e : n + 1 ≡ p + 1 + (n - p) = omega arith in
+    let f : p + (n - p) ≡ n = omega arith in
+    let gone = length-drop p js in
+    let len = length-take-le (p + 1) js (omega arith) in
+    take-set-lt (n + 1) out p j (omega arith)
+    ∙ ap (λ v. set v p j) (ap (λ (k : ℕ). take k out) e ∙ take-paste js (p + 1) (drop p js) (n - p) (omega arith) (omega arith))
+    ∙ set-append_left (take (p + 1) js) behind p j (omega arith)
+    ∙ ap (λ v. v ++ behind) (sym (take-set-lt (p + 1) js p j (omega arith)) ∙ take_more_set js p j (omega arith))
+    ∙ append_assoc (take p js) (j ∷ []) behind
+    ∙ ap (λ v. v ++ j ∷ behind) (sym (take-take p n js a))
+    ∙ ap (λ v. take p (take n js) ++ j ∷ v) (sym (drop-take p (n - p) js) ∙ ap (λ (k : ℕ). drop p (take k js)) f)

@@ -1,7 +1,7 @@
 pub mod Places
 pub mod Entering
 pub mod Striking
-pub mod Added
+pub mod Adding
 pub mod Inside
 pub mod Pumping
 pub mod Rooms

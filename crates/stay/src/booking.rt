@@ -1,5 +1,5 @@
 // Booking a job.
-ghost use Rattle.std.specs.Prelude.{◌≡◌, ◌+◌, ◌<◌, ◌≤◌, false, ◌||◌, length, None, Ok, Err, OnOk, nat_le, nat_lt};
+ghost use Rattle.std.specs.Prelude.{◌≡◌, ◌+◌, ◌<◌, false, ◌||◌, length, None, Ok, Err, OnOk, nat_le, nat_lt};
 ghost use Rattle.ledger.specs.Limits.{most_jobs, most_work};
 ghost use Rattle.ledger.specs.Queue.{work as work_of};
 ghost use Rattle.ledger.specs.Ledger.{booking as booking_call, can_be_in_time, unless_refused};
@@ -10,10 +10,7 @@ ghost use Rattle.stay.specs.Calls.{Follows, Kept, answer_of, verdict_of};
 ghost use Rattle.stay.specs.Contents.{contents};
 ghost use Rattle.stay.specs.Jobs.{queue_of};
 
-use crate::jobs::{entered, find, open_jobs, work_left};
 use crate::limits::{LARGEST_NUMBER, MOST_JOBS, MOST_WORK};
-use crate::nesting::nests;
-use crate::room::has_room;
 use crate::stay::Stay;
 use crate::table::Table;
 use ledger::{Job, Refusal};
@@ -27,7 +24,6 @@ fn checked_job(
     clock: u8,
     slots: u8,
 ) -> Result<Job, Refusal>
-    requires { slots ≤ 96 }
     ensures { result ≡ unless_refused (job_rules clock slots (record { number = number; release = release; due = due; left = work }) None) Err (Ok (record { number = number; release = release; due = due; left = work })) }
 {
     if number == 0 || number > LARGEST_NUMBER {
@@ -47,13 +43,14 @@ fn checked_job(
     })
 }
 
-// Whether a job of so many units would be one too many, or too much work.
-fn is_full(table: Table<Job>, units: u16) -> bool
-    requires { table.count ≤ 64 }
-    ensures told { result ≡ (nat_le most_jobs (length (queue_of table)) || nat_lt most_work (work_of (queue_of table) + units)) }
-    ensures room { result ≡ false → table.count < 64 }
-{
-    open_jobs(table) >= MOST_JOBS || work_left(table) + units as u32 > MOST_WORK
+impl Table<Job> {
+    // Whether a job of so many units would be one too many, or too much work.
+    fn is_full(&self, units: u16) -> bool
+        ensures told { result ≡ (nat_le most_jobs (length (queue_of self.now)) || nat_lt most_work (work_of (queue_of self.now) + units)) }
+        ensures room { result ≡ false → self.now.count < 64 }
+    {
+        self.open().len() >= MOST_JOBS || self.work_left() + units as u32 > MOST_WORK
+    }
 }
 
 impl Stay {
@@ -62,13 +59,13 @@ impl Stay {
         ensures told { result ≡ unless_refused (queue_rules self.now.clock (queue_of self.now.table) job None) Err (Ok tt) }
         ensures room { OnOk result (self.now.table.count < 64) }
     {
-        if find(self.table, job.number).is_some() {
+        if self.table.find(job.number).is_some() {
             return Err(Refusal::NumberOpen);
         }
-        if is_full(self.table, job.left) {
+        if self.table.is_full(job.left) {
             return Err(Refusal::NoRoom);
         }
-        if nests(self.table, self.clock, job) {
+        if self.table.nests(self.clock, job) {
             return Err(Refusal::Nested);
         }
         Ok(())
@@ -76,10 +73,9 @@ impl Stay {
 
     // Whether some sequence would be in time for these open jobs.
     fn has_room_for(&self, table: Table<Job>) -> bool
-        requires { table.count ≤ 64 }
         ensures { result ≡ can_be_in_time (contents self.now) (queue_of table) }
     {
-        has_room(table, self.slots, self.speeds, self.clock)
+        table.has_room(self.ahead(), self.speeds)
     }
 
     /// Books a job, and answers how many jobs are open with it.
@@ -96,7 +92,7 @@ impl Stay {
     {
         let job = checked_job(number, release, due, work, self.clock, self.slots)?;
         self.admits(job)?;
-        let table = entered(self.table, job);
+        let table = self.table.entered(job);
         if !self.has_room_for(table) {
             return Err(Refusal::NotInTime);
         }

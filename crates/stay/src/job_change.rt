@@ -1,5 +1,5 @@
 // What a booking and a withdrawal make of a stay.
-ghost use Rattle.std.specs.Prelude.{◌≡◌, ◌≤◌, true};
+ghost use Rattle.std.specs.Prelude.{◌≡◌, true};
 ghost use Rattle.ledger.specs.Ledger.{with_queue};
 ghost use Rattle.ledger.specs.SoundTest.{sound as is_sound};
 ghost use Rattle.stay.specs.Contents.{contents};
@@ -13,8 +13,7 @@ use ledger::Job;
 impl Stay {
     /// The stay with other open jobs; a plan made for the old ones stands no more.
     pub(crate) fn with_jobs(self, table: Table<Job>) -> Stay
-        requires few { table.count ≤ 64 }
-        requires sound { is_sound (with_queue (queue_of table) (contents self)) ≡ true }
+        requires { is_sound (with_queue (queue_of table) (contents self)) ≡ true }
         ensures { contents result ≡ with_queue (queue_of table) (contents self) }
     {
         Stay {

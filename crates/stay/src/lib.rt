@@ -16,6 +16,7 @@ mod pump;
 mod questions;
 mod room;
 mod running;
+mod slots_ahead;
 mod speed_list;
 mod speeds;
 mod stay;

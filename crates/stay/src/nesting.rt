@@ -1,5 +1,5 @@
 // Whether jobs lie inside one another.
-ghost use Rattle.std.specs.Prelude.{◌≡◌, ◌≤◌, ◌||◌};
+ghost use Rattle.std.specs.Prelude.{◌≡◌, ◌||◌};
 ghost use Rattle.ledger.specs.Queue.{counted, inside};
 ghost use Rattle.ledger.specs.Ledger.{nested};
 ghost use Rattle.stay.specs.Jobs.{queue_of};
@@ -27,15 +27,13 @@ fn either_inside(i: Job, j: Job, clock: u8) -> bool
     lies_inside(i, j, clock) || lies_inside(j, i, clock)
 }
 
-/// Whether a job would lie inside an open one, or an open one inside it.
-pub(crate) fn nests(table: Table<Job>, clock: u8, job: Job) -> bool
-    requires { table.count ≤ 64 }
-    ensures { result ≡ nested clock job (queue_of table) }
-{
-    for i in 0..table.count {
-        if either_inside(job, table.jobs[i], clock) {
-            return true;
-        }
+impl Table<Job> {
+    /// Whether a job would lie inside an open one, or an open one inside it.
+    pub(crate) fn nests(&self, clock: u8, job: Job) -> bool
+        ensures { result ≡ nested clock job (queue_of self.now) }
+    {
+        self.open()
+            .iter()
+            .any(|other| either_inside(job, *other, clock))
     }
-    false
 }

@@ -3,10 +3,10 @@ ghost use Rattle.std.specs.Prelude.{◌≡◌, false, [], replicate};
 ghost use Rattle.ledger.specs.Ledger.{ledger};
 ghost use Rattle.stay.specs.Contents.{contents};
 
-use crate::jobs::no_jobs;
 use crate::plan_record::PlanRecord;
 use crate::speed_list::SpeedList;
 use crate::stay::Stay;
+use crate::table::Table;
 
 impl Stay {
     /// One slot, speeds 0 and 1, clock 0, no jobs, no plan.
@@ -18,7 +18,7 @@ impl Stay {
             slots: 1,
             speeds: SpeedList::nought_and_one(),
             clock: 0,
-            table: no_jobs(),
+            table: Table::empty(),
             plan: PlanRecord::none(),
         }
     }

@@ -10,19 +10,18 @@ use ledger::Job;
 fn goes_before(i: Job, j: Job) -> bool
     ensures { result ≡ before i j }
 {
-    i.due < j.due || (i.due == j.due && i.release <= j.release)
+    (i.due, i.release) <= (j.due, j.release)
 }
 
-/// The place behind all jobs that go before a job or are level with it.
-pub(crate) fn place_for(table: Table<Job>, job: Job) -> usize
-    requires { table.count ≤ 64 }
-    ensures within { result ≤ table.count }
-    ensures place { enter job (queue_of table) ≡ take result (queue_of table) ++ (job ∷ drop result (queue_of table)) }
-{
-    for i in 0..table.count {
-        if !goes_before(table.jobs[i], job) {
-            return i;
-        }
+impl Table<Job> {
+    /// The place behind all open jobs that go before a job or are level with it.
+    pub(crate) fn place_for(&self, job: Job) -> usize
+        ensures within { result ≤ self.now.count }
+        ensures place { enter job (queue_of self.now) ≡ take result (queue_of self.now) ++ (job ∷ drop result (queue_of self.now)) }
+    {
+        self.open()
+            .iter()
+            .position(|other| !goes_before(*other, job))
+            .unwrap_or(self.count)
     }
-    table.count
 }

@@ -14,36 +14,38 @@ ghost use Rattle.stay.specs.Tariffs.{charges_by};
 ghost use Rattle.stay.specs.Works.{work_ahead, Placed};
 
 use crate::plan_record::PlanRecord;
+use crate::slots_ahead::SlotsAhead;
 use crate::stay::Stay;
-use crate::sums::work_sums;
 use crate::table::Table;
 use ledger::{Job, Refusal};
 use measure::Measure;
 use recursion::{SlotWork, Unplanned, plan};
 use tariff::Tariff;
 
-// The work of a slot, as planning is told it: what is due by its end, and what has arrived by it.
-fn slot_work(table: Table<Job>, slot: u8) -> SlotWork
-    requires { (table.count ≤ 64) × ((work_of (queue_of table) ≤ most_work) × (slot ≤ 95)) }
-    ensures { result ≡ record { due = owed (queue_of table) (slot + 1); arrived = arrived (queue_of table) slot } }
-{
-    SlotWork {
-        due: work_sums(table, slot + 1).0 as u16,
-        arrived: work_sums(table, slot).1 as u16,
+impl Table<Job> {
+    // The work of a slot, as planning is told it: what is due by its end, and what has arrived by it.
+    fn slot_work(&self, slot: u8) -> SlotWork
+        requires { (work_of (queue_of self.now) ≤ most_work) × (slot ≤ 95) }
+        ensures { result ≡ record { due = owed (queue_of self.now) (slot + 1); arrived = arrived (queue_of self.now) slot } }
+    {
+        SlotWork {
+            due: self.owed(slot + 1) as u16,
+            arrived: self.arrived(slot) as u16,
+        }
     }
-}
 
-// The work of the slots from the clock on, in the first places.
-fn work_ahead(table: Table<Job>, clock: u8, slots: u8) -> [SlotWork; 96]
-    requires { (table.count ≤ 64) × ((work_of (queue_of table) ≤ most_work) × ((clock ≤ slots) × (slots ≤ 96))) }
-    ensures { take (slots - clock) result ≡ work_ahead (queue_of table) clock (slots - clock) }
-{
-    let none = SlotWork { due: 0, arrived: 0 };
-    let mut work = [none; 96];
-    for k in clock..slots {
-        work[(k - clock) as usize] = slot_work(table, k);
+    // The work of the slots ahead, in the first places.
+    fn work_ahead(&self, ahead: SlotsAhead) -> [SlotWork; 96]
+        requires { work_of (queue_of self.now) ≤ most_work }
+        ensures { take (ahead.slots - ahead.clock) result ≡ work_ahead (queue_of self.now) ahead.clock (ahead.slots - ahead.clock) }
+    {
+        let none = SlotWork { due: 0, arrived: 0 };
+        let mut work = [none; 96];
+        for k in ahead.clock..ahead.slots {
+            work[(k - ahead.clock) as usize] = self.slot_work(k);
+        }
+        work
     }
-    work
 }
 
 // The answer of planning as that of a stay, on which only short memory can refuse a plan.
@@ -57,6 +59,17 @@ fn or_short<M: Measure>(answer: Result<M, Unplanned>) -> Result<M, Refusal>
 }
 
 impl Stay {
+    /// The slots still to be run.
+    pub(crate) fn ahead(&self) -> SlotsAhead
+        ensures clock { result.clock ≡ self.now.clock }
+        ensures slots { result.slots ≡ self.now.slots }
+    {
+        SlotsAhead {
+            clock: self.clock,
+            slots: self.slots,
+        }
+    }
+
     // How many slots are still to be run.
     fn slots_left(&self) -> u8
         ensures { result ≡ slots_left (contents self.now) }
@@ -105,7 +118,7 @@ impl Stay {
         let left = self.slots_left() as usize;
         let first = self.clock as usize;
         let end = self.slots as usize;
-        let work = work_ahead(self.table, self.clock, self.slots);
+        let work = self.table.work_ahead(self.ahead());
         or_short(plan(
             tariff,
             self.speeds.listed(),

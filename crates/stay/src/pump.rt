@@ -32,62 +32,61 @@ fn share_of(job: Job, slot: u8, rest: u16) -> u16
     }
 }
 
-// One slot at a speed, in queue order; finished jobs stay in the table.
-fn lowered(table: Table<Job>, slot: u8, speed: u8) -> Lowering
-    requires { table.count ≤ 64 }
-    ensures queue { queue_of result.table ≡ pumped slot speed (queue_of table) }
-    ensures count { result.table.count ≡ table.count }
-    ensures units { result.units ≡ units_pumped slot speed (queue_of table) }
-{
-    let mut t = table;
-    let mut rest = speed as u16;
-    for i in 0..table.count {
-        let by = share_of(t.jobs[i], slot, rest);
-        t.job_mut(i).left -= by;
-        rest -= by;
-    }
-    Lowering {
-        table: t,
-        units: speed as u16 - rest,
-    }
-}
-
 fn is_finished(job: Job) -> bool
     ensures { result ≡ (job.left == 0) }
 {
     job.left == 0
 }
 
-// The table without its finished jobs.
-fn tidied(table: Table<Job>) -> Table<Job>
-    requires { table.count ≤ 64 }
-    ensures queue { queue_of result ≡ unfinished (queue_of table) }
-    ensures count { result.count ≤ table.count }
-{
-    let mut jobs = table.jobs;
-    let mut count = 0;
-    for i in 0..table.count {
-        if !is_finished(table.jobs[i]) {
-            jobs[count] = table.jobs[i];
-            count += 1;
+impl Table<Job> {
+    // One slot at a speed, in queue order; finished jobs stay in the table.
+    fn lowered(self, slot: u8, speed: u8) -> Lowering
+        ensures queue { queue_of result.table ≡ pumped slot speed (queue_of self) }
+        ensures count { result.table.count ≡ self.count }
+        ensures units { result.units ≡ units_pumped slot speed (queue_of self) }
+    {
+        let mut t = self;
+        let mut rest = speed as u16;
+        // By index: a loop over `iter_mut` tells a proof nothing of what it wrote.
+        for i in 0..self.count {
+            let by = share_of(t.jobs[i], slot, rest);
+            t.job_mut(i).left -= by;
+            rest -= by;
+        }
+        Lowering {
+            table: t,
+            units: speed as u16 - rest,
         }
     }
-    Table { jobs, count }
-}
 
-/// The table after a slot at a speed, in queue order.
-pub(crate) fn pump(table: Table<Job>, slot: u8, speed: u8) -> Outcome
-    requires { table.count ≤ 64 }
-    ensures queue { queue_of result.table ≡ pump_slot slot speed (queue_of table) }
-    ensures count { result.table.count ≤ 64 }
-    ensures units { result.units ≡ units_pumped slot speed (queue_of table) }
-    ensures finished { result.finished ≡ jobs_finished (pumped slot speed (queue_of table)) }
-{
-    let low = lowered(table, slot, speed);
-    let tidy = tidied(low.table);
-    Outcome {
-        table: tidy,
-        units: low.units,
-        finished: (table.count - tidy.count) as u8,
+    // The table without its finished jobs.
+    fn tidied(&self) -> Table<Job>
+        ensures queue { queue_of result ≡ unfinished (queue_of self.now) }
+        ensures count { result.count ≤ self.now.count }
+    {
+        let mut jobs = self.jobs;
+        let mut count = 0;
+        for job in self.open() {
+            if !is_finished(*job) {
+                jobs[count] = *job;
+                count += 1;
+            }
+        }
+        Table { jobs, count }
+    }
+
+    /// The table after a slot at a speed, in queue order.
+    pub(crate) fn pump(self, slot: u8, speed: u8) -> Outcome
+        ensures queue { queue_of result.table ≡ pump_slot slot speed (queue_of self) }
+        ensures units { result.units ≡ units_pumped slot speed (queue_of self) }
+        ensures finished { result.finished ≡ jobs_finished (pumped slot speed (queue_of self)) }
+    {
+        let low = self.lowered(slot, speed);
+        let tidy = low.table.tidied();
+        Outcome {
+            table: tidy,
+            units: low.units,
+            finished: (self.count - tidy.count) as u8,
+        }
     }
 }

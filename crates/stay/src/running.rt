@@ -1,5 +1,5 @@
 // Running a slot.
-ghost use Rattle.std.specs.Prelude.{◌≡◌, ◌+◌, ◌<◌, ◌≤◌, true};
+ghost use Rattle.std.specs.Prelude.{◌≡◌, ◌+◌, ◌<◌, true};
 ghost use Rattle.ledger.specs.Ledger.{running as running_call};
 ghost use Rattle.ledger.specs.Answers.{ran};
 ghost use Rattle.ledger.specs.SoundTest.{sound as is_sound};
@@ -7,7 +7,6 @@ ghost use Rattle.stay.specs.Calls.{Follows, Kept, answer_of};
 ghost use Rattle.stay.specs.Contents.{contents};
 ghost use Rattle.stay.specs.Image.{image};
 
-use crate::pump::pump;
 use crate::stay::Stay;
 use crate::table::Table;
 use ledger::{Job, Refusal};
@@ -15,7 +14,7 @@ use ledger::{Job, Refusal};
 impl Stay {
     // One slot on, with the open jobs that it left.
     fn advanced(self, table: Table<Job>) -> Stay
-        requires within { (self.clock < self.slots) × (table.count ≤ 64) }
+        requires within { self.clock < self.slots }
         requires sound { is_sound (image self.slots self.speeds (self.clock + 1) table self.plan) ≡ true }
         ensures { contents result ≡ image self.slots self.speeds (self.clock + 1) table self.plan }
     {
@@ -40,7 +39,7 @@ impl Stay {
             return Err(Refusal::NotPlanned);
         }
         let speed = self.plan.speeds[self.clock as usize];
-        let outcome = pump(self.table, self.clock, speed);
+        let outcome = self.table.pump(self.clock, speed);
         *self = self.advanced(outcome.table);
         Ok((speed, outcome.units, outcome.finished))
     }

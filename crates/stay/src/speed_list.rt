@@ -3,7 +3,8 @@ ghost use Rattle.std.specs.Prelude.{◌≡◌, ◌≤◌, true, [], ◌∷◌, t
 ghost use Rattle.recursion.specs.Speeds.{lawful_speeds};
 ghost use Rattle.ledger.specs.Ledger.{top_of};
 
-use crate::speeds::{copied, is_lawful};
+use crate::speeds::as_bytes;
+use recursion::lawful;
 
 /// A lawful list of speeds, in the first `count` places: two to sixteen, from 0 on, each above the one before, none above 15.
 #[derive(Clone, Copy)]
@@ -21,13 +22,12 @@ impl SpeedList {
         ensures made { is_some result ≡ lawful_speeds list.now }
         ensures same { elim result [ Some s ↦ take s.count s.speeds ≡ list.now | None ↦ Unit {0} ] }
     {
-        if !is_lawful(list) {
+        let speeds = as_bytes(list)?;
+        let count = list.len();
+        if !lawful(&speeds[..count]) {
             return None;
         }
-        Some(SpeedList {
-            speeds: copied(list),
-            count: list.len(),
-        })
+        Some(SpeedList { speeds, count })
     }
 
     /// The speeds 0 and 1.

@@ -1,46 +1,19 @@
-// The test of a list of speeds, and its copy.
-ghost use Rattle.std.specs.Prelude.{◌≡◌, ◌<◌, true, length, take, drop, nat_le, slice_index};
-ghost use Rattle.recursion.specs.Speeds.{rises_from, lawful_speeds};
+// A list of speeds as bytes.
+ghost use Rattle.std.specs.Prelude.{◌≡◌, ◌≤◌, false, length, take, IfSome, IfNone, OnSome};
+ghost use Rattle.recursion.specs.Speeds.{lawful_speeds};
 
-// Whether each speed is above the one before it.
-fn rises(list: &[u32]) -> bool
-    requires { 0 < length list.now }
-    ensures { result ≡ rises_from (slice_index list.now 0) (drop 1 list.now) }
+/// The speeds, in the first places, if there are at most sixteen and each fits a byte.
+pub(crate) fn as_bytes(list: &[u32]) -> Option<[u8; 16]>
+    ensures some { IfSome result (λ speeds. take (length list.now) speeds ≡ list.now) }
+    ensures few { OnSome result (length list.now ≤ 16) }
+    ensures none { IfNone result (lawful_speeds list.now ≡ false) }
 {
-    for i in 1..list.len() {
-        if list[i] <= list[i - 1] {
-            return false;
-        }
+    if list.len() > 16 {
+        return None;
     }
-    true
-}
-
-// Whether a list of speeds may end with this one.
-fn may_be_last(speed: u32) -> bool
-    ensures { result ≡ nat_le speed 15 }
-{
-    speed <= 15
-}
-
-/// Whether the list keeps the rules of a list of speeds.
-pub(crate) fn is_lawful(list: &[u32]) -> bool
-    ensures { result ≡ lawful_speeds list.now }
-{
-    let count = list.len();
-    if count < 2 || count > 16 || list[0] != 0 {
-        return false;
-    }
-    rises(list) && may_be_last(list[count - 1])
-}
-
-/// The speeds of a lawful list, in the first places.
-pub(crate) fn copied(list: &[u32]) -> [u8; 16]
-    requires { lawful_speeds list.now ≡ true }
-    ensures { take (length list.now) result ≡ list.now }
-{
     let mut speeds = [0u8; 16];
-    for i in 0..list.len() {
-        speeds[i] = list[i] as u8;
+    for (i, speed) in list.iter().enumerate() {
+        speeds[i] = u8::try_from(*speed).ok()?;
     }
-    speeds
+    Some(speeds)
 }

@@ -1,5 +1,5 @@
 // What a stay holds.
-ghost use Rattle.std.specs.Prelude.{◌≡◌, ◌≤◌, true};
+ghost use Rattle.std.specs.Prelude.{◌≡◌, true};
 ghost use Rattle.stay.specs.Image.{image};
 ghost use Rattle.ledger.specs.SoundTest.{sound as is_sound};
 
@@ -17,6 +17,5 @@ pub(crate) struct Stay {
     pub(crate) clock: u8,
     pub(crate) table: Table<Job>,
     pub(crate) plan: PlanRecord,
-    ghost few: { table.count ≤ 64 },
     ghost sound: { is_sound (image slots speeds clock table plan) ≡ true },
 }

@@ -1,12 +1,8 @@
 // The parts on examples.
-ghost use Rattle.std.specs.Prelude.{◌≡◌};
+ghost use Rattle.std.specs.Prelude.{◌≡◌, ◌≤◌};
 
-use crate::jobs::{entered, find, no_jobs, struck, work_left};
-use crate::nesting::nests;
-use crate::pump::pump;
-use crate::room::has_room;
+use crate::slots_ahead::SlotsAhead;
 use crate::speed_list::SpeedList;
-use crate::sums::work_sums;
 use crate::table::Table;
 use ledger::Job;
 use std::test::Fail;
@@ -26,9 +22,17 @@ fn job(number: u32, release: u8, due: u8, left: u16) -> Job
 fn three_jobs() -> Table<Job>
     ensures { result.count ≡ 3 }
 {
-    let one = entered(no_jobs(), job(7, 1, 4, 5));
-    let two = entered(one, job(8, 1, 4, 2));
-    entered(two, job(9, 0, 2, 3))
+    Table::empty()
+        .entered(job(7, 1, 4, 5))
+        .entered(job(8, 1, 4, 2))
+        .entered(job(9, 0, 2, 3))
+}
+
+// Four slots, from the clock on.
+fn four_slots(clock: u8) -> SlotsAhead
+    requires { clock ≤ 4 }
+{
+    SlotsAhead { clock, slots: 4 }
 }
 
 #[test]
@@ -53,27 +57,30 @@ fn lists_of_speeds(rt: HostRuntime) -> Result<(), Fail> {
 #[test]
 fn jobs_stand_in_queue_order(rt: HostRuntime) {
     let table = three_jobs();
-    assert_eq!(rt; table.jobs[0].number, 9);
-    assert_eq!(rt; table.jobs[1].number, 7);
-    assert_eq!(rt; table.jobs[2].number, 8);
-    assert_eq!(rt; work_left(table), 10);
-    assert_eq!(rt; find(table, 8), Some(2));
-    assert_eq!(rt; find(table, 6), None);
-    let less = struck(table, 1);
-    assert_eq!(rt; less.jobs[1].number, 8);
-    assert_eq!(rt; work_sums(table, 2), (3, 10));
+    let jobs = table.jobs;
+    assert_eq!(rt; jobs[0].number, 9);
+    assert_eq!(rt; jobs[1].number, 7);
+    assert_eq!(rt; jobs[2].number, 8);
+    assert_eq!(rt; table.work_left(), 10);
+    assert_eq!(rt; table.find(8), Some(2));
+    assert_eq!(rt; table.find(6), None);
+    let less = table.struck(1).jobs;
+    assert_eq!(rt; less[1].number, 8);
+    assert_eq!(rt; table.owed(2), 3);
+    assert_eq!(rt; table.arrived(2), 10);
 }
 
 #[test]
 fn a_slot_pumps_released_jobs(rt: HostRuntime) {
-    let first = pump(three_jobs(), 0, 5);
+    let first = three_jobs().pump(0, 5);
     assert_eq!(rt; first.units, 3);
     assert_eq!(rt; first.finished, 1);
-    let second = pump(first.table, 1, 6);
+    let second = first.table.pump(1, 6);
     assert_eq!(rt; second.units, 6);
     assert_eq!(rt; second.finished, 1);
     assert_eq!(rt; second.table.count, 1);
-    assert_eq!(rt; second.table.jobs[0].left, 1);
+    let jobs = second.table.jobs;
+    assert_eq!(rt; jobs[0].left, 1);
 }
 
 #[test]
@@ -81,11 +88,11 @@ fn room_and_nesting(rt: HostRuntime) {
     let table = three_jobs();
     match SpeedList::from_slice(&[0, 3]) {
         Some(speeds) => {
-            assert!(rt; has_room(table, 4, speeds, 0));
-            assert!(rt; !has_room(table, 4, speeds, 1));
+            assert!(rt; table.has_room(four_slots(0), speeds));
+            assert!(rt; !table.has_room(four_slots(1), speeds));
         }
         None => assert!(rt; false),
     }
-    assert!(rt; nests(table, 0, job(5, 2, 3, 1)));
-    assert!(rt; !nests(table, 2, job(5, 2, 3, 1)));
+    assert!(rt; table.nests(0, job(5, 2, 3, 1)));
+    assert!(rt; !table.nests(2, job(5, 2, 3, 1)));
 }

@@ -4,7 +4,6 @@ ghost use Rattle.ledger.specs.Answers.{withdrew};
 ghost use Rattle.stay.specs.Calls.{Follows, Kept, answer_of};
 ghost use Rattle.stay.specs.Contents.{contents};
 
-use crate::jobs::{find, struck};
 use crate::stay::Stay;
 use ledger::Refusal;
 
@@ -14,11 +13,11 @@ impl Stay {
         ensures follows { Follows (contents self.old) (contents self.new) (withdrawing_call number) (answer_of withdrew result) }
         ensures kept { Kept result self.old self.new }
     {
-        let Some(place) = find(self.table, number) else {
+        let Some(place) = self.table.find(number) else {
             return Err(Refusal::NoSuchJob);
         };
         let left = self.table.jobs[place].left;
-        *self = self.with_jobs(struck(self.table, place));
+        *self = self.with_jobs(self.table.struck(place));
         Ok(left)
     }
 }

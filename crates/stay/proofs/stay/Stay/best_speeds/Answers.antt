@@ -26,7 +26,8 @@ returns g c =
     let t = charges_by g.T.Tariff.charge g.T.Tariff.bounded c.args.tariff.now in
     let laws = g.M.Measure.laws in
     let r = c.plan.result in
-    let ws = told_work c.slots_left-left.result me.slots me.clock c.work_ahead-work.result (work_ahead l.queue l.clock (slots_left l)) c.slots_left-left.ensures c.work_ahead-work.ensures in
+    let told = rw (c.ahead.ensures.slots, c.ahead.ensures.clock) at c.work_ahead-work.ensures in
+    let ws = told_work c.slots_left-left.result me.slots me.clock c.work_ahead-work.result (work_ahead l.queue l.clock (slots_left l)) c.slots_left-left.ensures told in
     let n : length c.args.speeds.now ≡ 96 = search rules in
     record {
       answer = c.or_short.ensures ∙ ap or_short c.plan.ensures.answer

@@ -37,9 +37,6 @@ returns-in_err-admits c =
 pub entered-table-requires : goal.entered-table-requires
 entered-table-requires c = c.in_ok-admits.ensures.room
 
-pub has_room_for-requires : goal.has_room_for-requires
-has_room_for-requires c = omega (arith, c.in_ok-admits.ensures.room)
-
 pub returns-then-not-has_room_for : goal.returns-then-not-has_room_for
 returns-then-not-has_room_for c =
     let me = c.args.self.now in
@@ -67,10 +64,7 @@ with_jobs-requires c =
     let l = contents me in
     let j = asked c.args.number c.args.release c.args.due c.args.work in
     let t = taken (goal.at.with_jobs-requires c).Else-not-has_room_for in
-    record {
-      few = omega (arith, c.in_ok-admits.ensures.room);
-      sound = accepted_sound l (with_queue (queue_of c.entered-table.result) l) (booking j) me.sound t.0 t.1;
-    }
+    accepted_sound l (with_queue (queue_of c.entered-table.result) l) (booking j) me.sound t.0 t.1
 
 pub returns : goal.returns
 returns c =

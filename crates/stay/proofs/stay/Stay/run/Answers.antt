@@ -33,7 +33,7 @@ advanced-requires c =
     let me = c.args.self.now in
     let r = runs (goal.at.advanced-requires c).After-pump-outcome in
     record {
-      within = (c.if-self.false, c.pump-outcome.ensures.count);
+      within = c.if-self.false;
       sound = accepted_sound (contents me) (image me.slots me.speeds (me.clock + 1) c.pump-outcome.result.table me.plan) running me.sound r.allowed r.step;
     }
 

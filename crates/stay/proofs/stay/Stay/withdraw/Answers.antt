@@ -1,4 +1,4 @@
-use Rattle.std.proofs.Common.{◌≡◌, true, false, List, get_or, refl, ap, ◌∙◌, arith}
+use Rattle.std.proofs.Common.{◌≡◌, true, false, List, get_or, refl, ap, ◌∙◌}
 use Rattle.ledger.specs.declared.job.Job.{Job}
 use Rattle.ledger.specs.declared.refusal.Refusal.TheVariants.{NoSuchJob}
 use Rattle.ledger.specs.Answers.{withdrew}
@@ -30,10 +30,7 @@ with_jobs-requires c =
     let me = c.args.self.now in
     let l = contents me in
     let n = c.args.number in
-    record {
-      few = omega arith;
-      sound = accepted_sound l (with_queue (queue_of c.struck.result) l) (withdrawing n) me.sound (withdrawing_rule l n true c.in-Some.ensures.found) (step c);
-    }
+    accepted_sound l (with_queue (queue_of c.struck.result) l) (withdrawing n) me.sound (withdrawing_rule l n true c.in-Some.ensures.found) (step c)
 
 pub returns : goal.returns
 returns c =

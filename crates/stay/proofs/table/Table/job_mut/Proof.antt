@@ -105,7 +105,7 @@ module _ (X : RattleType) where
   ms = record { row = Array R 64; ty = ty_array (layout X) 64 } ∷ record { row = usize; ty = ty_int w64 } ∷ []
 
   abbrev with_job : D → ℕ → X.Denot → D
-  with_job d i w = record { jobs = set d.jobs i w; count = d.count }
+  with_job d i w = record { jobs = set d.jobs i w; count = d.count; few = d.few }
 
   abbrev ended : Ended
   ended = F.ended X
