@@ -3,12 +3,13 @@ use Rattle.std.proofs.Common.{◌≡◌, ℕ, suc, ◌+◌, ◌*◌, ◌<◌, �
 use Rattle.std.specs.Bool.{⊤}
 use Rattle.std.specs.Iterator.{Yields, Drains}
 use Rattle.std.specs.Iterator.Runs.{EachRunFrom}
-use Rattle.std.specs.List.{fold, sum_by}
+use Rattle.std.specs.List.{fold, sum, sum_by}
 use Rattle.std.proofs.iter.runs.Made.{took}
 use Rattle.std.proofs.lemmas.Iterator.{YieldsList}
-use Rattle.std.proofs.lemmas.Iterator.Consumers.{YieldsList-so_far}
+use Rattle.std.proofs.lemmas.Iterator.Consumers.{YieldsList-so_far, sum_from_yields_List}
 use Rattle.std.proofs.lemmas.List.{length-map}
-use Rattle.std.proofs.lemmas.List.Sums.{sum_by-cons, length-filter, count_by-le-length}
+use Rattle.std.proofs.lemmas.List.Sums.{sum_by-cons, sum-map, length-filter, count_by-le-length}
+use Rattle.std.proofs.lemmas.List.Recursion.{is_sum_by}
 use Rattle.ledger.specs.declared.job.Job.{Job}
 
 -- steps that give numbers of at most m
@@ -31,13 +32,13 @@ module _ {S : Type 0} (steps : S → Option ℕ → S → Type 0) (m : ℕ) (sma
         let y = took p in
         omega (arith, within p.items y.0 (subst (λ (v : S). Yields steps v p.items y.0) is y.1))
 
-    pub sum_within : (r : ℕ) → (xs : List ℕ) × (⊤ → Drains steps s xs) × (r ≡ fold (λ a x. a + x) 0 xs) → r ≤ n * m
-    sum_within r ran =
+    pub summed : (r : ℕ) → (xs : List ℕ) × (⊤ → Drains steps s xs) × (r ≡ fold (λ a x. a + x) 0 xs) → (r ≡ sum all) × (r ≤ n * m)
+    summed r ran =
         let d = ran.1 tt in
-        omega (arith, ran.2, within ran.0 d.1.0 d.1.1)
+        (sum_from_yields_List s r ran road, omega (arith, ran.2, within ran.0 d.1.0 d.1.1))
 
 -- what is left of the jobs that pass a test
-pub left_where : (p : Job → Bool) (q : List Job) → sum_by (λ j. j.left) (filter p q) ≡ sum_by (λ j. cond (p j) j.left 0) q
+left_where : (p : Job → Bool) (q : List Job) → sum_by (λ j. j.left) (filter p q) ≡ sum_by (λ j. cond (p j) j.left 0) q
 left_where p [] = refl
 left_where p (j ∷ q) =
     let r = left_where p q in
@@ -46,6 +47,11 @@ left_where p (j ∷ q) =
       | true ↦ sum_by-cons (λ (i : Job). i.left) j (filter p q) ∙ ap (λ v. j.left + v) r
       | false ↦ omega arith
     ] ∙ sym more
+
+-- F adds that up by recursion
+pub sum_where : (F : List Job → ℕ) (p : Job → Bool) → F [] ≡ 0 → ((j : Job) (q : List Job) → F (j ∷ q) ≡ cond (p j) j.left 0 + F q) → (q : List Job) → sum (map (λ j. j.left) (filter p q)) ≡ F q
+sum_where F p none step q =
+    sum-map (λ (j : Job). j.left) (filter p q) ∙ left_where p q ∙ sym (is_sum_by F (λ j. cond (p j) j.left 0) none step q)
 
 pub few_where : (p : Job → Bool) (q : List Job) (n : ℕ) → length q ≤ n → length (map (λ j. j.left) (filter p q)) ≤ n
 few_where p q n h = omega (arith, length-map (filter p q) (λ (j : Job). j.left), length-filter p q, count_by-le-length p q)

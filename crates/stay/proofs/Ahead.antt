@@ -1,8 +1,11 @@
 -- The work of the slots ahead, and what planning makes of it.
-use Rattle.std.proofs.Common.{◌≡◌, ℕ, zero, suc, ◌+◌, ◌-◌, ◌*◌, ◌<◌, ◌≤◌, Bool, true, false, cond, not, ◌||◌, eqb, ltb, leb, List, [], ◌∷◌, length, get_or, take, set, None, Ok, Err, Result, sym, refl, ap, ◌∙◌, subst, ⊎_elim, arith, take_all}
+use Rattle.std.proofs.Common.{◌≡◌, ℕ, zero, suc, ◌+◌, ◌-◌, ◌*◌, ◌<◌, ◌≤◌, Bool, true, false, cond, not, ◌||◌, eqb, ltb, leb, List, [], ◌∷◌, length, get_or, take, None, Ok, Err, Result, sym, refl, ap, ◌∙◌, subst, ⊎_elim, arith, length-take-le, get_or-take}
 use borrow.Rule.Slice.PartMut.{mid_of, put_mid, put_same}
+use Rattle.std.specs.Array.{IsFromFnResultFrom, IsFromFnResult}
+use Rattle.std.specs.Fn.{Mut, Called}
+use Rattle.std.proofs.lemmas.List.{same_lists}
 use Rattle.std.proofs.lemmas.Slice.{between-put_mid}
-use Rattle.std.proofs.lemmas.Bool.{cond_both, cond-true, cond-false, le-ltb, eq-eqb, or_from, cases_Bool}
+use Rattle.std.proofs.lemmas.Bool.{cond_both, cond-true, cond-false, le-ltb, eq-eqb, or_from, cases_Bool, cases_eq}
 use Rattle.measure.specs.Kinds.{Kind, Laws, measure_of}
 use Rattle.measure.specs.Orders.{order_of}
 use Rattle.recursion.specs.declared.unplanned.Unplanned.{Unplanned}
@@ -26,7 +29,6 @@ use Rattle.ledger.proofs.Arrivals.{open_work_arrives}
 use Rattle.ledger.proofs.Promised.{measured_plan}
 use Rattle.stay.specs.Calls.{or_short, Lent}
 use Rattle.stay.specs.Works.{work_ahead, Placed}
-use Rattle.stay.proofs.Places.{next_place}
 
 -- ## Sums within the open work
 
@@ -49,32 +51,36 @@ length_ahead q k zero = refl
 length_ahead q k (suc n) = ap suc (length_ahead q (suc k) n)
 
 -- the slot at place i
-pub slot_ahead : (q : List Job) (k n i : ℕ) → i < n → get_or (work_ahead q k n) i no_work ≡ record { due = owed q (k + i + 1); arrived = arrived q (k + i) }
-slot_ahead q k zero i h = absurd (omega arith)
-slot_ahead q k (suc n) zero h =
+slot_ahead : (q : List Job) (k n i : ℕ) (d : SlotWork) → i < n → get_or (work_ahead q k n) i d ≡ record { due = owed q (k + i + 1); arrived = arrived q (k + i) }
+slot_ahead q k zero i d h = absurd (omega arith)
+slot_ahead q k (suc n) zero d h =
     let a : suc k ≡ k + 0 + 1 = omega arith in
     let b : k ≡ k + 0 = omega arith in
     ap (λ (v : ℕ). record { due = owed q v; arrived = arrived q k }) a ∙ ap (λ (v : ℕ). record { due = owed q (k + 0 + 1); arrived = arrived q v }) b
-slot_ahead q k (suc n) (suc i) h =
+slot_ahead q k (suc n) (suc i) d h =
     let e : suc k + i ≡ k + suc i = omega arith in
-    slot_ahead q (suc k) n i (omega arith) ∙ ap (λ (v : ℕ). record { due = owed q (v + 1); arrived = arrived q v }) e
+    slot_ahead q (suc k) n i d (omega arith) ∙ ap (λ (v : ℕ). record { due = owed q (v + 1); arrived = arrived q v }) e
 
--- one more slot written
-pub ahead_more : (q : List Job) (clock slots k : ℕ) (out : List SlotWork) (v : SlotWork) → clock ≤ k → k < slots → slots ≤ length out → v ≡ record { due = owed q (k + 1); arrived = arrived q k } → take (k - clock) out ≡ take (k - clock) (work_ahead q clock (slots - clock)) → take (k + 1 - clock) (set out (k - clock) v) ≡ take (k + 1 - clock) (work_ahead q clock (slots - clock))
-ahead_more q clock slots k out v a b room is h =
-    let i = k - clock in
-    let ws = work_ahead q clock (slots - clock) in
-    let len = length_ahead q clock (slots - clock) in
-    let on : i + 1 ≡ k + 1 - clock = omega arith in
-    let at : clock + i ≡ k = omega arith in
-    let here = slot_ahead q clock (slots - clock) i (omega arith) ∙ ap (λ (w : ℕ). record { due = owed q (w + 1); arrived = arrived q w }) at in
-    subst (λ (n : ℕ). take n (set out i v) ≡ take n ws) on (next_place out ws i no_work v (omega arith) (omega arith) h (is ∙ sym here))
+-- the first n of m places, each of which has the slot at that place
+pub all_ahead : (q : List Job) (k n m : ℕ) (out : List SlotWork) → n ≤ m → length out ≡ m → ((i : ℕ) (d : SlotWork) → i < m → get_or out i d ≡ record { due = owed q (k + i + 1); arrived = arrived q (k + i) }) → take n out ≡ work_ahead q k n
+all_ahead q k n m out le long at =
+    let len = length-take-le n out (omega arith) in
+    same_lists (take n out) (work_ahead q k n) (len ∙ sym (length_ahead q k n))
+    (λ i d h. let l : i < n = omega arith in get_or-take n out i d l ∙ at i d (omega arith) ∙ sym (slot_ahead q k n i d l))
 
-pub ahead_all : (q : List Job) (clock slots k : ℕ) (out : List SlotWork) → k ≡ slots → take (k - clock) out ≡ take (k - clock) (work_ahead q clock (slots - clock)) → take (slots - clock) out ≡ work_ahead q clock (slots - clock)
-ahead_all q clock slots k out e h =
-    let ws = work_ahead q clock (slots - clock) in
-    let len = length_ahead q clock (slots - clock) in
-    subst (λ (n : ℕ). take (n - clock) out ≡ take (n - clock) ws) e h ∙ take_all (slots - clock) ws (omega arith)
+-- calls of a closure at the numbers from i on, each of which leaves it as it was
+module _ {F B : Type 0} {g : Mut F (ℕ × Unit {0}) B} {f : F} (h : ℕ → B) (called : (i : ℕ) (y : B) (p : F) → Called g f (i, tt) y p → (p ≡ f) × (y ≡ h i)) where
+  called_from : (out : List B) (i n : ℕ) (p : F) → p ≡ f → IsFromFnResultFrom g p out i n → (k : ℕ) (d : B) → i ≤ k → k < i + n → get_or out k d ≡ h k
+  called_from out i zero p e m k d a b = absurd (omega arith)
+  called_from out i (suc n) p e m k d a b =
+      let now = called i m.1 m.0 (subst (λ (v : F). Called g v (i, tt) m.1 m.0) e m.3) in
+      ⊎_elim
+      (λ (same : i ≡ k). subst (λ (v : ℕ). get_or out v d ≡ h v) same (m.2.1 d ∙ now.1))
+      (λ other. called_from out (i + 1) n m.0 now.0 m.4 k d (omega arith) (omega arith))
+      (cases_eq i k)
+
+  pub called_each : {out : List B} {n : ℕ} → IsFromFnResult g f out n → (k : ℕ) (d : B) → k < n → get_or out k d ≡ h k
+  called_each {out} {n} m k d l = called_from out 0 n f refl m.each k d (omega arith) (omega arith)
 
 -- ## The pump that it describes
 

@@ -7,7 +7,3 @@ pub next_place : {X : Type 0} (out want : List X) (i : ℕ) (d v : X) → i < le
 next_place out want i d v a b e f =
     let len = length-set out i v in
     take_more_same (set out i v) want i d (omega arith) b (take-set out i v ∙ e) (get_or-set_same out i v d a ∙ f)
-
--- so many jobs are open, and no more than 64
-pub count_open : {X : Type 0} (js : List X) (n : ℕ) → n ≤ length js → length (take n js) ≡ n
-count_open js n a = length-take-le n js a

@@ -15,34 +15,6 @@ use crate::stay::Stay;
 use crate::table::Table;
 use ledger::{Job, Refusal};
 
-// The job that is asked for, unless its own numbers refuse it.
-fn checked_job(
-    number: u32,
-    release: u32,
-    due: u32,
-    work: u32,
-    clock: u8,
-    slots: u8,
-) -> Result<Job, Refusal>
-    ensures { result ≡ unless_refused (job_rules clock slots (record { number = number; release = release; due = due; left = work }) None) Err (Ok (record { number = number; release = release; due = due; left = work })) }
-{
-    if number == 0 || number > LARGEST_NUMBER {
-        return Err(Refusal::JobNumber);
-    }
-    if release < clock as u32 || due <= release || due > slots as u32 {
-        return Err(Refusal::JobSlots);
-    }
-    if work == 0 || work > MOST_WORK {
-        return Err(Refusal::JobWork);
-    }
-    Ok(Job {
-        number,
-        release: release as u8,
-        due: due as u8,
-        left: work as u16,
-    })
-}
-
 impl Table<Job> {
     // Whether a job of so many units would be one too many, or too much work.
     fn is_full(&self, units: u16) -> bool
@@ -54,6 +26,27 @@ impl Table<Job> {
 }
 
 impl Stay {
+    // The job that is asked for, unless its own numbers refuse it.
+    fn checked_job(&self, number: u32, release: u32, due: u32, work: u32) -> Result<Job, Refusal>
+        ensures { result ≡ unless_refused (job_rules self.now.clock self.now.slots (record { number = number; release = release; due = due; left = work }) None) Err (Ok (record { number = number; release = release; due = due; left = work })) }
+    {
+        if number == 0 || number > LARGEST_NUMBER {
+            return Err(Refusal::JobNumber);
+        }
+        if release < self.clock as u32 || due <= release || due > self.slots as u32 {
+            return Err(Refusal::JobSlots);
+        }
+        if work == 0 || work > MOST_WORK {
+            return Err(Refusal::JobWork);
+        }
+        Ok(Job {
+            number,
+            release: release as u8,
+            due: due as u8,
+            left: work as u16,
+        })
+    }
+
     // Whether the queue takes a job in: its number, the room, the nesting.
     fn admits(&self, job: Job) -> Result<(), Refusal>
         ensures told { result ≡ unless_refused (queue_rules self.now.clock (queue_of self.now.table) job None) Err (Ok tt) }
@@ -90,7 +83,7 @@ impl Stay {
         ensures exact { ExactVerdict (contents self.old) (record { number = number; release = release; due = due; left = work }) (verdict_of result) }
         ensures kept { Kept result self.old self.new }
     {
-        let job = checked_job(number, release, due, work, self.clock, self.slots)?;
+        let job = self.checked_job(number, release, due, work)?;
         self.admits(job)?;
         let table = self.table.entered(job);
         if !self.has_room_for(table) {

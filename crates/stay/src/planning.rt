@@ -20,12 +20,13 @@ use crate::table::Table;
 use ledger::{Job, Refusal};
 use measure::Measure;
 use recursion::{SlotWork, Unplanned, plan};
+use std::array::from_fn;
 use tariff::Tariff;
 
 impl Table<Job> {
     // The work of a slot, as planning is told it: what is due by its end, and what has arrived by it.
     fn slot_work(&self, slot: u8) -> SlotWork
-        requires { (work_of (queue_of self.now) ≤ most_work) × (slot ≤ 95) }
+        requires { (work_of (queue_of self.now) ≤ most_work) × (slot ≤ 191) }
         ensures { result ≡ record { due = owed (queue_of self.now) (slot + 1); arrived = arrived (queue_of self.now) slot } }
     {
         SlotWork {
@@ -34,17 +35,12 @@ impl Table<Job> {
         }
     }
 
-    // The work of the slots ahead, in the first places.
+    // The work of the slots ahead, in the first places; what the rest hold is not read. A fixed array: the library has no heap.
     fn work_ahead(&self, ahead: SlotsAhead) -> [SlotWork; 96]
         requires { work_of (queue_of self.now) ≤ most_work }
         ensures { take (ahead.slots - ahead.clock) result ≡ work_ahead (queue_of self.now) ahead.clock (ahead.slots - ahead.clock) }
     {
-        let none = SlotWork { due: 0, arrived: 0 };
-        let mut work = [none; 96];
-        for k in ahead.clock..ahead.slots {
-            work[(k - ahead.clock) as usize] = self.slot_work(k);
-        }
-        work
+        from_fn(|i| self.slot_work(ahead.clock + i as u8))
     }
 }
 

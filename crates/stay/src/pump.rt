@@ -40,14 +40,14 @@ fn is_finished(job: Job) -> bool
 
 impl Table<Job> {
     // One slot at a speed, in queue order; finished jobs stay in the table.
-    fn lowered(self, slot: u8, speed: u8) -> Lowering
-        ensures queue { queue_of result.table ≡ pumped slot speed (queue_of self) }
-        ensures count { result.table.count ≡ self.count }
-        ensures units { result.units ≡ units_pumped slot speed (queue_of self) }
+    fn lowered(&self, slot: u8, speed: u8) -> Lowering
+        ensures queue { queue_of result.table ≡ pumped slot speed (queue_of self.now) }
+        ensures count { result.table.count ≡ self.now.count }
+        ensures units { result.units ≡ units_pumped slot speed (queue_of self.now) }
     {
-        let mut t = self;
+        let mut t = *self;
         let mut rest = speed as u16;
-        // By index: a loop over `iter_mut` tells a proof nothing of what it wrote.
+        // By index: the table's own method lends each job.
         for i in 0..self.count {
             let by = share_of(t.jobs[i], slot, rest);
             t.job_mut(i).left -= by;
@@ -76,10 +76,10 @@ impl Table<Job> {
     }
 
     /// The table after a slot at a speed, in queue order.
-    pub(crate) fn pump(self, slot: u8, speed: u8) -> Outcome
-        ensures queue { queue_of result.table ≡ pump_slot slot speed (queue_of self) }
-        ensures units { result.units ≡ units_pumped slot speed (queue_of self) }
-        ensures finished { result.finished ≡ jobs_finished (pumped slot speed (queue_of self)) }
+    pub(crate) fn pump(&self, slot: u8, speed: u8) -> Outcome
+        ensures queue { queue_of result.table ≡ pump_slot slot speed (queue_of self.now) }
+        ensures units { result.units ≡ units_pumped slot speed (queue_of self.now) }
+        ensures finished { result.finished ≡ jobs_finished (pumped slot speed (queue_of self.now)) }
     {
         let low = self.lowered(slot, speed);
         let tidy = low.table.tidied();

@@ -7,6 +7,7 @@ use crate::speeds::as_bytes;
 use recursion::lawful;
 
 /// A lawful list of speeds, in the first `count` places: two to sixteen, from 0 on, each above the one before, none above 15.
+// A fixed array: the library has no heap.
 #[derive(Clone, Copy)]
 pub struct SpeedList {
     pub(crate) speeds: [u8; 16],
@@ -50,6 +51,6 @@ impl SpeedList {
     pub fn listed(&self) -> &[u8]
         ensures { result.now ≡ take self.now.count self.now.speeds }
     {
-        &self.speeds[0..self.count]
+        &self.speeds[..self.count]
     }
 }

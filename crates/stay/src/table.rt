@@ -5,6 +5,7 @@ ghost use Rattle.std.specs.Borrow.{sem, follows};
 use std::alloc::AllocError;
 
 /// Up to 64 jobs: those in the first `count` places.
+// A fixed array: the library has no heap.
 #[derive(Copy)]
 pub(crate) struct Table<T> {
     pub(crate) jobs: [T; 64],

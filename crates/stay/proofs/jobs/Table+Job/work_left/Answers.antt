@@ -1,12 +1,13 @@
 use Rattle.std.proofs.Common.{sym, refl, ◌∙◌, arith, length-take, rules}
 use Rattle.std.proofs.lemmas.Iterator.{YieldsList-from_slice, YieldsList-from_map}
-use Rattle.std.proofs.lemmas.Iterator.Consumers.{sum_by_from_yields_List, YieldsList-at}
+use Rattle.std.proofs.lemmas.Iterator.Consumers.{YieldsList-at}
 use Rattle.std.proofs.lemmas.List.{length-map}
 use Rattle.std.proofs.lemmas.List.Recursion.{is_sum_by}
+use Rattle.std.proofs.lemmas.List.Sums.{sum-map}
 use Rattle.ledger.specs.declared.job.Job.{Job}
 use Rattle.ledger.specs.Queue.{work}
 use Rattle.stay.specs.Jobs.{queue_of}
-use Rattle.stay.proofs.Adding.{sum_fits, sum_within}
+use Rattle.stay.proofs.Adding.{sum_fits, summed}
 use Rattle.stay.proofs.jobs.Table+Job.work_left.Goals as goal
 
 pub sum-requires-clause-fits : goal.sum-requires-clause-fits
@@ -22,11 +23,7 @@ returns c =
     let t = c.args.self.now in
     let q = queue_of t in
     let few = length-take t.count t.jobs in
-    record {
-      sum = sum_by_from_yields_List (λ (j : Job). j.left) q c.map.result c.sum.result c.sum.ensures.ran
-          (YieldsList-from_map _ _ (YieldsList-at c.map.ensures.source (YieldsList-from_slice q (cc))) c.map.ensures.closure (λ x r q k. search rules))
-          ∙ sym (is_sum_by work (λ j. j.left) refl (λ _ _. refl) q);
-      within = sum_within _ 65535 (λ s x t k. search rules) c.map.result _ 64
-          (YieldsList-from_map _ (λ (j : Job). j.left) (YieldsList-at c.map.ensures.source (YieldsList-from_slice q (cc))) c.map.ensures.closure (λ x r q k. search rules))
-          (omega (arith, length-map q (λ (j : Job). j.left))) _ c.sum.ensures.ran;
-    }
+    let told = summed _ 65535 (λ s x t k. search rules) c.map.result _ 64
+    (YieldsList-from_map _ (λ (j : Job). j.left) (YieldsList-at c.map.ensures.source (YieldsList-from_slice q (cc))) c.map.ensures.closure (λ x r q k. search rules))
+    (omega (arith, length-map q (λ (j : Job). j.left))) _ c.sum.ensures.ran in
+    record { sum = told.0 ∙ sum-map (λ (j : Job). j.left) q ∙ sym (is_sum_by work (λ j. j.left) refl (λ _ _. refl) q); within = told.1 }

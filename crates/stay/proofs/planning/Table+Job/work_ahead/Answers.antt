@@ -1,16 +1,13 @@
-use Rattle.std.proofs.Common.{◌-◌, ◌∙◌, arith, length-set}
+use Rattle.std.proofs.Common.{◌+◌, ◌-◌, arith, rules}
+use Rattle.ledger.specs.Queue.{arrived, owed}
 use Rattle.stay.specs.Jobs.{queue_of}
-use Rattle.stay.proofs.Ahead.{ahead_more, ahead_all}
+use Rattle.stay.proofs.Ahead.{all_ahead, called_each}
 use Rattle.stay.proofs.planning.Table+Job.work_ahead.Goals as goal
 
-pub loop-k-preserved : goal.loop-k-preserved
-loop-k-preserved c =
-    let k = c.loop-k.k in
-    let out = c.loop-k.work in
-    let inv = c.loop-k.invariant in (
-      length-set out (k - c.args.ahead.clock) c.slot_work.result ∙ inv.0,
-      ahead_more (queue_of c.args.self.now) c.args.ahead.clock c.args.ahead.slots k out c.slot_work.result (omega arith) (omega arith) (omega arith) c.slot_work.ensures inv.1,
-    )
-
 pub returns : goal.returns
-returns c = ahead_all (queue_of c.args.self.now) c.args.ahead.clock c.args.ahead.slots c.loop-k.k c.loop-k.work (omega arith) c.loop-k.invariant.1
+returns c =
+    let q = queue_of c.args.self.now in
+    let a = c.args.ahead in
+    let made = c.from_fn.ensures.items in
+    all_ahead q a.clock (a.slots - a.clock) 96 c.from_fn.result (omega arith) made.long
+    (called_each (λ i. record { due = owed q (a.clock + i + 1); arrived = arrived q (a.clock + i) }) (λ i y p k. search rules) made)

@@ -16,5 +16,5 @@ returns c =
     let tidy = c.tidied-tidy.ensures.queue in
     let lows = c.lowered-low.ensures.queue in
     let is : length (queue_of t) ≡ length (unfinished (queue_of low)) = ap length tidy in
-    let gone : finished (queue_of low) ≡ finished (pumped c.args.slot c.args.speed (queue_of c.args.self)) = ap finished lows in
+    let gone : finished (queue_of low) ≡ finished (pumped c.args.slot c.args.speed (queue_of c.args.self.now)) = ap finished lows in
     record { queue = tidy ∙ ap unfinished lows; units = c.lowered-low.ensures.units; finished = omega arith }

@@ -1,12 +1,10 @@
-use Rattle.std.proofs.Common.{leb, cond, sym, refl, ◌∙◌, arith, length-take, rules, tests}
+use Rattle.std.proofs.Common.{leb, refl, ◌∙◌, arith, length-take, rules, tests}
 use Rattle.std.proofs.lemmas.Iterator.{YieldsList-from_slice, YieldsList-from_map}
-use Rattle.std.proofs.lemmas.Iterator.Consumers.{sum_by_from_yields_List, YieldsList-at, YieldsList-from_filter}
-use Rattle.std.proofs.lemmas.List.Recursion.{is_sum_by}
-use Rattle.std.specs.List.{filter}
+use Rattle.std.proofs.lemmas.Iterator.Consumers.{YieldsList-at, YieldsList-from_filter}
 use Rattle.ledger.specs.declared.job.Job.{Job}
 use Rattle.ledger.specs.Queue.{owed as sum_of}
 use Rattle.stay.specs.Jobs.{queue_of}
-use Rattle.stay.proofs.Adding.{sum_fits, sum_within, left_where, few_where}
+use Rattle.stay.proofs.Adding.{sum_fits, summed, sum_where, few_where}
 use Rattle.stay.proofs.sums.Table+Job.owed.Goals as goal
 
 pub sum-requires-clause-fits : goal.sum-requires-clause-fits
@@ -26,15 +24,9 @@ returns c =
     let q = queue_of t in
     let p = λ (j : Job). leb j.due c.args.slot in
     let few = length-take t.count t.jobs in
-    record {
-      sum = sum_by_from_yields_List (λ (j : Job). j.left) (filter p q) c.map.result c.sum.result c.sum.ensures.ran
-          (YieldsList-from_map _ _
-          (YieldsList-at c.map.ensures.source (YieldsList-from_filter _ p (YieldsList-at c.filter.ensures.source (YieldsList-from_slice q (cc))) c.filter.ensures.closure (λ x b q k. search (rules, tests))))
-          c.map.ensures.closure (λ x r q k. search rules))
-          ∙ left_where p q ∙ sym (is_sum_by (λ v. sum_of v c.args.slot) (λ j. cond (p j) j.left 0) refl (λ _ _. refl) q);
-      within = sum_within _ 65535 (λ s x t k. search rules) c.map.result _ 64
-          (YieldsList-from_map _ (λ (j : Job). j.left)
-          (YieldsList-at c.map.ensures.source (YieldsList-from_filter _ p (YieldsList-at c.filter.ensures.source (YieldsList-from_slice q (cc))) c.filter.ensures.closure (λ x b q k. search (rules, tests))))
-          c.map.ensures.closure (λ x r q k. search rules))
-          (few_where p q 64 (omega arith)) _ c.sum.ensures.ran;
-    }
+    let told = summed _ 65535 (λ s x t k. search rules) c.map.result _ 64
+    (YieldsList-from_map _ (λ (j : Job). j.left)
+    (YieldsList-at c.map.ensures.source (YieldsList-from_filter _ p (YieldsList-at c.filter.ensures.source (YieldsList-from_slice q (cc))) c.filter.ensures.closure (λ x b q k. search (rules, tests))))
+    c.map.ensures.closure (λ x r q k. search rules))
+    (few_where p q 64 (omega arith)) _ c.sum.ensures.ran in
+    record { sum = told.0 ∙ sum_where (λ v. sum_of v c.args.slot) p refl (λ _ _. refl) q; within = told.1 }
