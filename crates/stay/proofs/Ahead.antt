@@ -15,7 +15,7 @@ use Rattle.recursion.specs.Planning.{slots_wrong, memory_short, least_or, plan_a
 use Rattle.recursion.specs.Pumps.{Pump, decisions, SameSlots, SamePlan, planned_speeds}
 use Rattle.recursion.specs.Speeds.{lawful_speeds}
 use Rattle.recursion.specs.Staged.{least}
-use Rattle.recursion.specs.Work.{no_work, most_arrived, pump_of}
+use Rattle.recursion.specs.Work.{most_arrived, pump_of}
 use Rattle.recursion.proofs.Alike.{same_plan}
 use Rattle.recursion.proofs.Answering.{answer_least}
 use Rattle.recursion.proofs.Feeding.{Feeds, feeds_pump}

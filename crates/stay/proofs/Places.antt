@@ -1,5 +1,5 @@
 -- Places of an array and of the list that its first places hold.
-use Rattle.std.proofs.Common.{◌≡◌, ℕ, ◌+◌, ◌<◌, ◌≤◌, List, length, get_or, take, set, ◌∙◌, arith, length-set, length-take-le}
+use Rattle.std.proofs.Common.{◌≡◌, ℕ, ◌+◌, ◌<◌, List, length, get_or, take, set, ◌∙◌, arith, length-set}
 use Rattle.std.proofs.lemmas.List.{take_more_same, take-set, get_or-set_same}
 
 -- one more place written as it should be

@@ -34,9 +34,6 @@ returns-in_err-admits c =
     let no = queue_refused (contents me) j c.in_ok-job.job r c.in_ok-job.ensures c.in_err-admits.ensures.told in
     rw (p.1, p.2) record { follows = refused_follows (contents me) (booking j) r me.sound no; exact = exact_verdict (contents me) j (Some r) me.sound no; kept = refl }
 
-pub entered-table-requires : goal.entered-table-requires
-entered-table-requires c = c.in_ok-admits.ensures.room
-
 pub returns-then-not-has_room_for : goal.returns-then-not-has_room_for
 returns-then-not-has_room_for c =
     let me = c.args.self.now in
