@@ -22,9 +22,9 @@ place_of n q =
     let h : i < length q = ltb-true i (length q) yes in (
       h,
       or_from_places (is_open n) p refl (λ _ _. refl) (take i q) blank (λ k l.
-      let le = length-take i q in
-      let k_in : k < i = omega arith in
-      ap p (get_or-take i q k blank k_in) ∙ fails_before_first p q k blank k_in),
+          let le = length-take i q in
+          let k_in : k < i = omega arith in
+          ap p (get_or-take i q k blank k_in) ∙ fails_before_first p q k blank k_in),
       eqb-true _ n (passes_at_first p q blank h),
     ))
     (λ no.

@@ -47,7 +47,7 @@ impl Table<Job> {
     {
         let mut t = *self;
         let mut rest = speed as u16;
-        // By index: the table's own method lends each job.
+        // By index: after a loop over `iter_mut` a proof knows none of the elements.
         for i in 0..self.count {
             let by = share_of(t.jobs[i], slot, rest);
             t.job_mut(i).left -= by;

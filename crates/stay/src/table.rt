@@ -16,6 +16,7 @@ pub(crate) struct Table<T> {
 // Not derived: a generic struct with a ghost field has no derived `Clone`.
 impl<T: Copy> Clone for Table<T> {
     ghost is_clone = { λ table copy. copy ≡ table };
+
     ghost is_infallible = { λ _. ⊤ };
 
     fn clone(&self) -> Result<Table<T>, AllocError> {
