@@ -1,7 +1,7 @@
 // One job of a stay.
 
 /// One move of ballast: it may be pumped from the release slot on, and nothing of it may be left at the due slot.
-#[derive(Clone, Copy)]
+#[derive(Clone, Copy, PartialEq, Eq, Debug)]
 pub struct Job {
     pub number: u32,
     pub release: u8,

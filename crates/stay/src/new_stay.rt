@@ -1,10 +1,10 @@
-// A new stay.
-ghost use Rattle.std.specs.Prelude.{◌≡◌, false, [], replicate};
-ghost use Rattle.ledger.specs.Ledger.{ledger};
+// A stay without jobs.
+ghost use Rattle.std.specs.Prelude.{◌≡◌, true, [], None, take};
+ghost use Rattle.ledger.specs.Ledger.{ledger, no_plan};
+ghost use Rattle.ledger.specs.SoundTest.{sound as is_sound};
 ghost use Rattle.stay.specs.Contents.{contents};
 
 use crate::jobs::no_jobs;
-use crate::plan_record::PlanRecord;
 use crate::speed_list::SpeedList;
 use crate::stay::Stay;
 
@@ -12,14 +12,23 @@ impl Stay {
     /// One slot, speeds 0 and 1, clock 0, no jobs, no plan.
     pub(crate) fn new() -> Stay
         ensures holds { contents result ≡ ledger [] }
-        ensures unplanned { result.plan ≡ record { stands = false; mark = 0; speeds = replicate 96 0 } }
+        ensures unplanned { result.plan ≡ None }
+    {
+        Stay::opened(1, SpeedList::nought_and_one())
+    }
+
+    /// Just opened: clock 0, no jobs, no plan.
+    pub(crate) fn opened(slots: u8, speeds: SpeedList) -> Stay
+        requires { is_sound (record { slots = slots; speeds = take speeds.count speeds.speeds; clock = 0; queue = []; standing = no_plan }) ≡ true }
+        ensures holds { contents result ≡ record { slots = slots; speeds = take speeds.count speeds.speeds; clock = 0; queue = []; standing = no_plan } }
+        ensures unplanned { result.plan ≡ None }
     {
         Stay {
-            slots: 1,
-            speeds: SpeedList::nought_and_one(),
+            slots,
+            speeds,
             clock: 0,
             table: no_jobs(),
-            plan: PlanRecord::none(),
+            plan: None,
         }
     }
 }

@@ -1,13 +1,12 @@
 // Planning the slots left.
-ghost use Rattle.std.specs.Prelude.{◌≡◌, ◌+◌, ◌-◌, ◌≤◌, true, ◌&&◌, length, take, drop, Ok, Err, nat_le, nat_lt};
+ghost use Rattle.std.specs.Prelude.{◌≡◌, ◌+◌, ◌-◌, ◌≤◌, ◌&&◌, length, take, Ok, Err, nat_le, nat_lt};
 ghost use Rattle.measure.specs.Kinds.{measure_of};
 ghost use Rattle.measure.specs.Orders.{order_of};
 ghost use Rattle.ledger.specs.Limits.{most_work};
 ghost use Rattle.ledger.specs.Queue.{arrived, owed, work as work_of};
-ghost use Rattle.ledger.specs.Ledger.{plan as plan_of, planning as planning_call, slots_left, plan_for, charges_of, refusal, unless_refused, with_plan};
+ghost use Rattle.ledger.specs.Ledger.{planning as planning_call, slots_left, plan_for, charges_of, refusal, unless_refused};
 ghost use Rattle.ledger.specs.Answers.{planned};
-ghost use Rattle.ledger.specs.SoundTest.{sound as is_sound};
-ghost use Rattle.stay.specs.Calls.{Follows, PlansOwn, MeasureIs, Kept, Lent, answer_of, or_short};
+ghost use Rattle.stay.specs.Calls.{Follows, PlansOwn, MeasureIs, Kept, Lent, answer_of};
 ghost use Rattle.stay.specs.Contents.{contents};
 ghost use Rattle.stay.specs.Jobs.{queue_of};
 ghost use Rattle.stay.specs.Tariffs.{charges_by};
@@ -19,7 +18,7 @@ use crate::sums::work_sums;
 use crate::table::Table;
 use ledger::{Job, Refusal};
 use measure::Measure;
-use recursion::{SlotWork, Unplanned, plan};
+use recursion::{SlotWork, plan};
 use tariff::Tariff;
 
 // The work of a slot, as planning is told it: what is due by its end, and what has arrived by it.
@@ -46,16 +45,6 @@ fn work_ahead(table: Table<Job>, clock: u8, slots: u8) -> [SlotWork; 96]
     work
 }
 
-// The answer of planning as that of a stay, on which only short memory can refuse a plan.
-fn or_short<M: Measure>(answer: Result<M, Unplanned>) -> Result<M, Refusal>
-    ensures { result ≡ or_short answer }
-{
-    match answer {
-        Ok(measure) => Ok(measure),
-        Err(_) => Err(Refusal::ShortMemory),
-    }
-}
-
 impl Stay {
     // How many slots are still to be run.
     fn slots_left(&self) -> u8
@@ -69,24 +58,6 @@ impl Stay {
         ensures { result ≡ (nat_le self.now.clock slot && nat_lt slot self.now.slots) }
     {
         self.clock as u32 <= slot && slot < self.slots as u32
-    }
-
-    // With another standing plan: a mark and a speed for each slot.
-    fn with_plan(self, mark: u8, chosen: [u8; 96]) -> Stay
-        requires { is_sound (with_plan (plan_of mark (take (self.slots - self.clock) (drop self.clock chosen))) (contents self)) ≡ true }
-        ensures { contents result ≡ with_plan (plan_of mark (take (self.slots - self.clock) (drop self.clock chosen))) (contents self) }
-    {
-        Stay {
-            slots: self.slots,
-            speeds: self.speeds,
-            clock: self.clock,
-            table: self.table,
-            plan: PlanRecord {
-                stands: true,
-                mark,
-                speeds: chosen,
-            },
-        }
     }
 
     // Puts the best speeds of the slots left into the places of these slots, and answers their measure.
@@ -106,15 +77,17 @@ impl Stay {
         let first = self.clock as usize;
         let end = self.slots as usize;
         let work = work_ahead(self.table, self.clock, self.slots);
-        or_short(plan(
+        // On a stay only short memory can refuse a plan.
+        plan(
             tariff,
             self.speeds.listed(),
             first,
-            &work[0..left],
+            &work[..left],
             bytes,
             measures,
             &mut speeds[first..end],
-        ))
+        )
+        .map_err(|_| Refusal::ShortMemory)
     }
 
     /// Plans the slots left at the least measure, and makes that the standing plan; answers how many slots that is, and
@@ -133,9 +106,9 @@ impl Stay {
         ensures bytes { Lent result bytes.old bytes.new }
         ensures measures { Lent result measures.old measures.new }
     {
-        let mut speeds = [0; 96];
-        let measure = self.best_speeds(tariff, bytes, measures, &mut speeds)?;
-        *self = self.with_plan(M::mark_told(), speeds);
+        let mut best = PlanRecord::blank(M::mark_told());
+        let measure = self.best_speeds(tariff, bytes, measures, &mut best.speeds)?;
+        self.plan = Some(best);
         Ok((self.slots_left(), measure))
     }
 }

@@ -16,7 +16,7 @@ pub(crate) struct Stay {
     pub(crate) speeds: SpeedList,
     pub(crate) clock: u8,
     pub(crate) table: Table<Job>,
-    pub(crate) plan: PlanRecord,
+    pub(crate) plan: Option<PlanRecord>,
     ghost few: { table.count ≤ 64 },
     ghost sound: { is_sound (image slots speeds clock table plan) ≡ true },
 }

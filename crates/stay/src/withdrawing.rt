@@ -14,11 +14,9 @@ impl Stay {
         ensures follows { Follows (contents self.old) (contents self.new) (withdrawing_call number) (answer_of withdrew result) }
         ensures kept { Kept result self.old self.new }
     {
-        let Some(place) = find(self.table, number) else {
-            return Err(Refusal::NoSuchJob);
-        };
+        let place = find(self.table, number).ok_or(Refusal::NoSuchJob)?;
         let left = self.table.jobs[place].left;
-        *self = self.with_jobs(struck(self.table, place));
+        self.take_jobs(struck(self.table, place));
         Ok(left)
     }
 }
