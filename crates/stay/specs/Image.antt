@@ -1,5 +1,5 @@
--- Words: image, the ledger that the parts of a stay hold.
-use Rattle.std.specs.Prelude.{ℕ, ◌-◌, take, drop, Some, None, Option}
+-- Words: image, the ledger that the parts of a stay hold; anew, the ledger just opened.
+use Rattle.std.specs.Prelude.{ℕ, ◌-◌, List, [], take, drop, Some, None, Option}
 use Rattle.ledger.specs.declared.job.Job.{Job}
 use Rattle.ledger.specs.Ledger.{Ledger, Standing, no_plan, plan}
 use Rattle.stay.specs.declared.plan_record.PlanRecord.{PlanRecord}
@@ -20,3 +20,7 @@ image slots speeds clock table p = record {
   queue = queue_of table;
   standing = standing_of slots clock p;
 }
+
+-- n slots and the speeds ss: clock 0, no job, no plan
+abbrev pub anew : ℕ → List ℕ → Ledger
+anew n ss = record { slots = n; speeds = ss; clock = 0; queue = []; standing = no_plan }

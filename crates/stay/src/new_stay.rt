@@ -1,8 +1,9 @@
 // A stay without jobs.
 ghost use Rattle.std.specs.Prelude.{◌≡◌, true, [], None, take};
-ghost use Rattle.ledger.specs.Ledger.{ledger, no_plan};
+ghost use Rattle.ledger.specs.Ledger.{ledger};
 ghost use Rattle.ledger.specs.SoundTest.{sound as is_sound};
 ghost use Rattle.stay.specs.Contents.{contents};
+ghost use Rattle.stay.specs.Image.{anew};
 
 use crate::jobs::no_jobs;
 use crate::speed_list::SpeedList;
@@ -19,8 +20,8 @@ impl Stay {
 
     /// Just opened: clock 0, no jobs, no plan.
     pub(crate) fn opened(slots: u8, speeds: SpeedList) -> Stay
-        requires { is_sound (record { slots = slots; speeds = take speeds.count speeds.speeds; clock = 0; queue = []; standing = no_plan }) ≡ true }
-        ensures holds { contents result ≡ record { slots = slots; speeds = take speeds.count speeds.speeds; clock = 0; queue = []; standing = no_plan } }
+        requires { is_sound (anew slots (take speeds.count speeds.speeds)) ≡ true }
+        ensures holds { contents result ≡ anew slots (take speeds.count speeds.speeds) }
         ensures unplanned { result.plan ≡ None }
     {
         Stay {

@@ -57,7 +57,7 @@ impl Stay {
     pub(crate) fn is_ahead(&self, slot: u32) -> bool
         ensures { result ≡ (nat_le self.now.clock slot && nat_lt slot self.now.slots) }
     {
-        self.clock as u32 <= slot && slot < self.slots as u32
+        (self.clock as u32..self.slots as u32).contains(&slot)
     }
 
     // Puts the best speeds of the slots left into the places of these slots, and answers their measure.
@@ -68,8 +68,8 @@ impl Stay {
         measures: &mut [M],
         speeds: &mut [u8; 96],
     ) -> Result<M, Refusal>
-        ensures answer { result ≡ unless_refused (refusal (contents self.now) (planning_call (charges_by T.Tariff.charge T.Tariff.bounded tariff.now) (order_of M.Measure.laws) M.Measure.mark (length bytes.old) (length measures.old))) Err (Ok (measure_of M.Measure.kind (charges_of (contents self.now) (charges_by T.Tariff.charge T.Tariff.bounded tariff.now) (plan_for (contents self.now) (charges_by T.Tariff.charge T.Tariff.bounded tariff.now) (order_of M.Measure.laws))))) }
-        ensures speeds { Placed result self.now.clock self.now.slots (plan_for (contents self.now) (charges_by T.Tariff.charge T.Tariff.bounded tariff.now) (order_of M.Measure.laws)) speeds.old speeds.new }
+        ensures answer { let t = charges_by T.Tariff.charge T.Tariff.bounded tariff.now in let best = plan_for (contents self.now) t (order_of M.Measure.laws) in result ≡ unless_refused (refusal (contents self.now) (planning_call t (order_of M.Measure.laws) M.Measure.mark (length bytes.old) (length measures.old))) Err (Ok (measure_of M.Measure.kind (charges_of (contents self.now) t best))) }
+        ensures speeds { let t = charges_by T.Tariff.charge T.Tariff.bounded tariff.now in let best = plan_for (contents self.now) t (order_of M.Measure.laws) in Placed result self.now.clock self.now.slots best speeds.old speeds.new }
         ensures bytes { Lent result bytes.old bytes.new }
         ensures measures { Lent result measures.old measures.new }
     {
@@ -99,9 +99,9 @@ impl Stay {
         bytes: &mut [u8],
         measures: &mut [M],
     ) -> Result<(u8, M), Refusal>
-        ensures follows { Follows (contents self.old) (contents self.new) (planning_call (charges_by T.Tariff.charge T.Tariff.bounded tariff.now) (order_of M.Measure.laws) M.Measure.mark (length bytes.old) (length measures.old)) (answer_of (λ p. planned p.0 (charges_of (contents self.old) (charges_by T.Tariff.charge T.Tariff.bounded tariff.now) (plan_for (contents self.old) (charges_by T.Tariff.charge T.Tariff.bounded tariff.now) (order_of M.Measure.laws)))) result) }
-        ensures measure { MeasureIs M.Measure.kind (charges_of (contents self.old) (charges_by T.Tariff.charge T.Tariff.bounded tariff.now) (plan_for (contents self.old) (charges_by T.Tariff.charge T.Tariff.bounded tariff.now) (order_of M.Measure.laws))) result }
-        ensures own { PlansOwn M.Measure.kind (charges_by T.Tariff.charge T.Tariff.bounded tariff.now) M.Measure.mark (contents self.old) (contents self.new) result }
+        ensures follows { let t = charges_by T.Tariff.charge T.Tariff.bounded tariff.now in let best = plan_for (contents self.old) t (order_of M.Measure.laws) in Follows (contents self.old) (contents self.new) (planning_call t (order_of M.Measure.laws) M.Measure.mark (length bytes.old) (length measures.old)) (answer_of (λ p. planned p.0 (charges_of (contents self.old) t best)) result) }
+        ensures measure { let t = charges_by T.Tariff.charge T.Tariff.bounded tariff.now in let best = plan_for (contents self.old) t (order_of M.Measure.laws) in MeasureIs M.Measure.kind (charges_of (contents self.old) t best) result }
+        ensures own { let t = charges_by T.Tariff.charge T.Tariff.bounded tariff.now in PlansOwn M.Measure.kind t M.Measure.mark (contents self.old) (contents self.new) result }
         ensures kept { Kept result self.old self.new }
         ensures bytes { Lent result bytes.old bytes.new }
         ensures measures { Lent result measures.old measures.new }

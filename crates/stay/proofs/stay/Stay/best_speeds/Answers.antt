@@ -1,12 +1,10 @@
-use Rattle.std.proofs.Common.{◌≡◌, ℕ, ◌-◌, List, length, take, sym, ap, ◌∙◌, subst, arith, rules}
-use borrow.Rule.Slice.PartMut.{mid_of, put_mid}
+use Rattle.std.proofs.Common.{◌≡◌, ℕ, ◌-◌, List, length, take, ap, ◌∙◌, arith, rules}
+use borrow.Rule.Slice.PartMut.{mid_of}
 use Rattle.recursion.specs.Planning.{places_after}
 use Rattle.measure.specs.Orders.{order_of}
 use Rattle.ledger.specs.Ledger.{plan_for}
-use Rattle.stay.specs.Calls.{Lent}
 use Rattle.stay.specs.Contents.{contents}
 use Rattle.stay.specs.Tariffs.{charges_by}
-use Rattle.stay.specs.Works.{Placed}
 use Rattle.stay.proofs.Ahead.{or_short, told_short, lent_kept, placed, planned_ahead, stay_answer}
 use Rattle.stay.proofs.Steps.{sound_holds}
 use Rattle.stay.proofs.stay.Stay.best_speeds.Goals as goal
@@ -25,11 +23,10 @@ returns g c =
     let n : length c.args.speeds.now ≡ 96 = search rules in
     let short = told_short r c.map_err.result c.map_err.ensures.cases (λ u e h. search rules) in
     record {
-      answer = short ∙ ap or_short c.plan.ensures.answer
-          ∙ stay_answer laws l t w (length c.args.bytes.now) (length c.args.measures.now) g.M.Measure.mark _ _ _ c.listed.ensures ws (search rules);
-      speeds = subst (λ v. Placed v me.clock me.slots (plan_for l t (order_of laws)) c.args.speeds.now (put_mid me.clock (me.slots - me.clock) c.args.speeds.now c.plan.new.chosen)) (sym short)
+      answer = rw short (ap or_short c.plan.ensures.answer ∙ stay_answer laws l t w (length c.args.bytes.now) (length c.args.measures.now) g.M.Measure.mark _ _ _ c.listed.ensures ws (search rules));
+      speeds = rw short
           (placed r me.clock me.slots c.args.speeds.now c.plan.new.chosen (plan_for l t (order_of laws)) (omega arith) (search rules)
           (c.plan.ensures.chosen ∙ ap (λ (v : List ℕ). places_after r v (mid_of me.clock (me.slots - me.clock) c.args.speeds.now)) (planned_ahead laws l t w _ _ c.listed.ensures ws)));
-      bytes = subst (λ v. Lent v c.args.bytes.now c.plan.new.bytes) (sym short) (lent_kept r c.args.bytes.now c.plan.new.bytes (search rules) c.plan.ensures.bytes);
-      measures = subst (λ v. Lent v c.args.measures.now c.plan.new.measures) (sym short) (lent_kept r c.args.measures.now c.plan.new.measures (search rules) c.plan.ensures.measures);
+      bytes = rw short (lent_kept r c.args.bytes.now c.plan.new.bytes (search rules) c.plan.ensures.bytes);
+      measures = rw short (lent_kept r c.args.measures.now c.plan.new.measures (search rules) c.plan.ensures.measures);
     }

@@ -34,12 +34,6 @@ returns-in_err-admits c =
     let no = queue_refused (contents me) j c.in_ok-job.job r c.in_ok-job.ensures c.in_err-admits.ensures.told in
     rw (p.1, p.2) record { follows = refused_follows (contents me) (booking j) r me.sound no; exact = exact_verdict (contents me) j (Some r) me.sound no; kept = refl }
 
-pub entered-table-requires : goal.entered-table-requires
-entered-table-requires c = c.in_ok-admits.ensures.room
-
-pub has_room_for-requires : goal.has_room_for-requires
-has_room_for-requires c = omega (arith, c.in_ok-admits.ensures.room)
-
 pub returns-then-not-has_room_for : goal.returns-then-not-has_room_for
 returns-then-not-has_room_for c =
     let me = c.args.self.now in
@@ -61,16 +55,13 @@ taken c =
     let is = c.entered-table.ensures.queue in
     (booking_rules_lem l j i q true told c.in_ok-admits.ensures.told is c.if-not-has_room_for.ensures, booking_step l j i q told is)
 
-pub take_jobs-requires : goal.take_jobs-requires
-take_jobs-requires c =
+pub take_jobs-requires-clause-sound : goal.take_jobs-requires-clause-sound
+take_jobs-requires-clause-sound c =
     let me = c.args.self.now in
     let l = contents me in
     let j = asked c.args.number c.args.release c.args.due c.args.work in
-    let t = taken (goal.at.take_jobs-requires c).Else-not-has_room_for in
-    record {
-      few = omega (arith, c.in_ok-admits.ensures.room);
-      sound = accepted_sound l (with_queue (queue_of c.entered-table.result) l) (booking j) me.sound t.0 t.1;
-    }
+    let t = taken (goal.at.take_jobs-requires-clause-sound c).Else-not-has_room_for in
+    accepted_sound l (with_queue (queue_of c.entered-table.result) l) (booking j) me.sound t.0 t.1
 
 pub returns : goal.returns
 returns c =

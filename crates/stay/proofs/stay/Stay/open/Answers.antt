@@ -1,12 +1,12 @@
-use Rattle.std.proofs.Common.{◌≡◌, ℕ, true, false, List, [], take, None, is_some, refl, ap, ◌∙◌}
-use Rattle.std.proofs.lemmas.Result.{err_from_is_err_and}
+use Rattle.std.proofs.Common.{◌≡◌, true, false, take, None, is_some, refl, ap, ◌∙◌}
 use Rattle.recursion.specs.Speeds.{lawful_speeds}
 use Rattle.ledger.specs.declared.refusal.Refusal.TheVariants.{SlotCount, SpeedList}
 use Rattle.ledger.specs.Answers.{opened}
-use Rattle.ledger.specs.Ledger.{Ledger, no_plan, opening, refusal}
+use Rattle.ledger.specs.Ledger.{opening, refusal}
 use Rattle.stay.specs.Contents.{contents}
+use Rattle.stay.specs.Image.{anew}
 use Rattle.stay.proofs.Ruling.{rule_told, opening_rules}
-use Rattle.stay.proofs.Steps.{refused_follows, accepted_sound, accepted_follows}
+use Rattle.stay.proofs.Steps.{refused_follows, err_follows, accepted_sound, accepted_follows}
 use Rattle.stay.proofs.stay.Stay.open.Goals as goal
 use Rattle.stay.proofs.stay.Stay.open.Goals.{In_ok-listed}
 
@@ -24,13 +24,7 @@ returns-in_err-listed-clause-follows c =
     let ss = c.args.speeds.now in
     let o = c.from_slice.result in
     let r = c.in_err-listed.field-0.0 in
-    let p = err_from_is_err_and c.from_residual.result c.from_residual.ensures.1 in
-    rw (p.1, p.2)
-    (refused_follows l (opening n ss) r c.args.self.now.sound (opening_rules l n ss false (is_some o) c.if-is_no_slot_count.ensures c.from_slice.ensures.made ∙ rule_told o SpeedList r c.in_err-listed.ensures.value))
-
--- a stay of n slots just opened, with the speeds ss
-abbrev anew : ℕ → List ℕ → Ledger
-anew n ss = record { slots = n; speeds = ss; clock = 0; queue = []; standing = no_plan }
+    err_follows _ l (opening n ss) r _ c.from_residual.ensures.1 c.args.self.now.sound (opening_rules l n ss false (is_some o) c.if-is_no_slot_count.ensures c.from_slice.ensures.made ∙ rule_told o SpeedList r c.in_err-listed.ensures.value)
 
 -- the call on the ledger
 taken : (c : In_ok-listed) →

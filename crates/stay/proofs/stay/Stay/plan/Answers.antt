@@ -1,5 +1,4 @@
 use Rattle.std.proofs.Common.{◌-◌, length, take, drop, ap, ◌∙◌}
-use Rattle.std.proofs.lemmas.Result.{err_from_is_err_and}
 use Rattle.measure.specs.Orders.{order_of}
 use Rattle.ledger.specs.Ledger.{planning, refusal}
 use Rattle.stay.specs.declared.plan_record.PlanRecord.{PlanRecord}
@@ -7,7 +6,7 @@ use Rattle.stay.specs.Contents.{contents}
 use Rattle.stay.specs.Tariffs.{charges_by}
 use Rattle.stay.proofs.Planned.{Made, made}
 use Rattle.stay.proofs.Ruling.{told_which}
-use Rattle.stay.proofs.Steps.{refused_follows}
+use Rattle.stay.proofs.Steps.{err_follows}
 use Rattle.stay.proofs.stay.Stay.plan.Given as given
 use Rattle.stay.proofs.stay.Stay.plan.Goals as goal
 use Rattle.stay.proofs.stay.Stay.plan.Goals.{In_ok-measure}
@@ -18,8 +17,7 @@ returns-in_err-measure-clause-follows g c =
     let l = contents me in
     let call = planning (charges_by g.T.Tariff.charge g.T.Tariff.bounded c.args.tariff.now) (order_of g.M.Measure.laws) g.M.Measure.mark (length c.args.bytes.now) (length c.args.measures.now) in
     let r = c.in_err-measure.field-0.0 in
-    let p = err_from_is_err_and c.from_residual.result c.from_residual.ensures.1 in
-    rw (p.1, p.2) (refused_follows l call r me.sound (told_which (refusal l call) r _ c.in_err-measure.ensures.answer))
+    err_follows _ l call r _ c.from_residual.ensures.1 me.sound (told_which (refusal l call) r _ c.in_err-measure.ensures.answer)
 
 -- the plan on the ledger
 taken : (g : given.Over) (c : In_ok-measure g) →
@@ -32,8 +30,8 @@ taken g c =
     (take (me.slots - me.clock) (drop me.clock c.best_speeds.new.speeds)) c.in_ok-measure.measure me.sound c.in_ok-measure.ensures.answer
     (ap (λ (p : PlanRecord). p.mark) c.blank-best.ensures ∙ c.mark_told.ensures) c.in_ok-measure.ensures.speeds
 
-pub invariant_of-self : goal.invariant_of-self
-invariant_of-self g c = record { few = c.args.self.now.few; sound = (taken g c).sound_then }
+pub invariant_of-self-clause-sound : goal.invariant_of-self-clause-sound
+invariant_of-self-clause-sound g c = (taken g c).sound_then
 
 pub returns-clause-follows : goal.returns-clause-follows
 returns-clause-follows g c = rw c.slots_left.ensures (taken g (goal.at.returns-clause-follows g c).In_ok-measure).follows

@@ -1,12 +1,11 @@
 use Rattle.std.proofs.Common.{◌+◌, get_or, rules}
-use Rattle.std.proofs.lemmas.Result.{err_from_is_err_and}
 use Rattle.ledger.specs.declared.refusal.Refusal.TheVariants.{StayOver}
 use Rattle.ledger.specs.Answers.{ran}
 use Rattle.ledger.specs.Ledger.{running}
 use Rattle.stay.specs.Contents.{contents}
 use Rattle.stay.specs.Image.{image}
 use Rattle.stay.proofs.Slotwise.{stay_over, not_planned, Runs, slot_runs}
-use Rattle.stay.proofs.Steps.{refused_follows, accepted_sound, accepted_follows}
+use Rattle.stay.proofs.Steps.{refused_follows, err_follows, accepted_sound, accepted_follows}
 use Rattle.stay.proofs.stay.Stay.run.Goals as goal
 use Rattle.stay.proofs.stay.Stay.run.Goals.{After-pump-outcome}
 
@@ -18,8 +17,7 @@ pub returns-in_err-plan-clause-follows : goal.returns-in_err-plan-clause-follows
 returns-in_err-plan-clause-follows c =
     let me = c.args.self.now in
     let r = c.in_err-plan.field-0.0 in
-    let p = err_from_is_err_and c.from_residual.result c.from_residual.ensures.1 in
-    rw (p.1, p.2) (refused_follows (contents me) running r me.sound (not_planned me.slots me.clock me.speeds me.table me.plan r c.if-self.false c.in_err-plan.ensures.value))
+    err_follows _ (contents me) running r _ c.from_residual.ensures.1 me.sound (not_planned me.slots me.clock me.speeds me.table me.plan r c.if-self.false c.in_err-plan.ensures.value)
 
 runs : (c : After-pump-outcome) →
     let me = c.args.self.now in
@@ -30,14 +28,11 @@ runs c =
     rw c.in_ok-plan.ensures.ok_part
     (slot_runs me.slots me.clock me.speeds me.table c.pump-outcome.result.table c.in_ok-plan.plan c.if-self.false (search rules) c.pump-outcome.ensures.queue)
 
-pub invariant_of-self : goal.invariant_of-self
-invariant_of-self c =
+pub invariant_of-self-clause-sound : goal.invariant_of-self-clause-sound
+invariant_of-self-clause-sound c =
     let me = c.args.self.now in
-    let r = runs (goal.at.invariant_of-self c).After-pump-outcome in
-    record {
-      few = c.pump-outcome.ensures.count;
-      sound = accepted_sound (contents me) (image me.slots me.speeds (me.clock + 1) c.pump-outcome.result.table me.plan) running me.sound r.allowed r.step;
-    }
+    let r = runs (goal.at.invariant_of-self-clause-sound c).After-pump-outcome in
+    accepted_sound (contents me) (image me.slots me.speeds (me.clock + 1) c.pump-outcome.result.table me.plan) running me.sound r.allowed r.step
 
 pub returns-clause-follows : goal.returns-clause-follows
 returns-clause-follows c =

@@ -1,12 +1,11 @@
 use Rattle.std.proofs.Common.{◌≡◌, true, get_or, None, is_some, ap, ◌∙◌}
-use Rattle.std.proofs.lemmas.Result.{err_from_is_err_and}
 use Rattle.ledger.specs.declared.refusal.Refusal.TheVariants.{NoSuchJob}
 use Rattle.ledger.specs.Answers.{withdrew}
 use Rattle.ledger.specs.Ledger.{withdrawing, refusal, with_queue, accepted}
 use Rattle.stay.specs.Contents.{contents}
 use Rattle.stay.specs.Jobs.{blank, queue_of}
 use Rattle.stay.proofs.Ruling.{rule_told, withdrawing_rule}
-use Rattle.stay.proofs.Steps.{refused_follows, accepted_sound, accepted_follows}
+use Rattle.stay.proofs.Steps.{err_follows, accepted_sound, accepted_follows}
 use Rattle.stay.proofs.Striking.{left_at}
 use Rattle.stay.proofs.stay.Stay.withdraw.Goals as goal
 use Rattle.stay.proofs.stay.Stay.withdraw.Goals.{After-struck}
@@ -17,8 +16,7 @@ returns-in_err-place-clause-follows c =
     let n = c.args.number in
     let o = c.find.result in
     let r = c.in_err-place.field-0.0 in
-    let p = err_from_is_err_and c.from_residual.result c.from_residual.ensures.1 in
-    rw (p.1, p.2) (refused_follows l (withdrawing n) r c.args.self.now.sound (withdrawing_rule l n (is_some o) c.find.ensures.found ∙ rule_told o NoSuchJob r c.in_err-place.ensures.value))
+    err_follows _ l (withdrawing n) r _ c.from_residual.ensures.1 c.args.self.now.sound (withdrawing_rule l n (is_some o) c.find.ensures.found ∙ rule_told o NoSuchJob r c.in_err-place.ensures.value)
 
 -- the call on the ledger
 taken : (c : After-struck) →
