@@ -21,11 +21,10 @@ module _ {M : Type 0} {q : Kind M} (laws : Laws q) (l : Ledger) (t : Charges) (m
   abbrev pub the_charges : List ℕ
   the_charges = charges_of l t (plan_for l t (order_of laws))
 
-  -- the ledger with a plan of mark k and speeds ss, and the measure m
+  -- the ledger with a plan of mark k and speeds ss, the answer, and the measure m
   pub record Made (k : ℕ) (ss : List ℕ) (m : M) : Type 0 where
     pub sound_then : sound (with_plan (plan k ss) l) ≡ true
     pub follows : Follows l (with_plan (plan k ss) l) call (planned (slots_left l) the_charges)
-    pub measured : m ≡ measure_of q the_charges
     pub own : OwnPlan q t mark l (with_plan (plan k ss) l) m
 
   -- so it is if planning was told that measure, that mark and those speeds
@@ -38,7 +37,6 @@ module _ {M : Type 0} {q : Kind M} (laws : Laws q) (l : Ledger) (t : Charges) (m
       record {
         sound_then = accepted_sound l (with_plan (plan k ss) l) call holds a.1 same;
         follows = accepted_follows l (with_plan (plan k ss) l) call (planned (slots_left l) the_charges) holds a.1 same refl;
-        measured = a.0;
         own = record {
           speeds = plan_for l t (order_of laws);
           stands = ap (λ (v : Ledger). v.standing) same;

@@ -1,13 +1,15 @@
 // Planning the slots left.
-ghost use Rattle.std.specs.Prelude.{◌≡◌, ◌+◌, ◌-◌, ◌≤◌, ◌&&◌, length, take, Ok, Err, nat_le, nat_lt};
+ghost use Rattle.std.specs.Prelude.{◌≡◌, ◌+◌, ◌-◌, ◌≤◌, true, ◌&&◌, length, take, Some, Ok, Err, nat_le, nat_lt};
 ghost use Rattle.measure.specs.Kinds.{measure_of};
 ghost use Rattle.measure.specs.Orders.{order_of};
 ghost use Rattle.ledger.specs.Limits.{most_work};
 ghost use Rattle.ledger.specs.Queue.{arrived, owed, work as work_of};
-ghost use Rattle.ledger.specs.Ledger.{planning as planning_call, slots_left, plan_for, charges_of, refusal, unless_refused};
+ghost use Rattle.ledger.specs.Ledger.{planning as planning_call, slots_left, plan_for, charges_of, refusal, unless_refused, with_plan};
 ghost use Rattle.ledger.specs.Answers.{planned};
+ghost use Rattle.ledger.specs.SoundTest.{sound as is_sound};
 ghost use Rattle.stay.specs.Calls.{Follows, PlansOwn, MeasureIs, Kept, Lent, answer_of};
 ghost use Rattle.stay.specs.Contents.{contents};
+ghost use Rattle.stay.specs.Image.{standing_of};
 ghost use Rattle.stay.specs.Jobs.{queue_of};
 ghost use Rattle.stay.specs.Tariffs.{charges_by};
 ghost use Rattle.stay.specs.Works.{work_ahead, Placed};
@@ -60,6 +62,14 @@ impl Stay {
         (self.clock as u32..self.slots as u32).contains(&slot)
     }
 
+    // Makes a plan the standing one.
+    fn take_plan(&mut self, plan: PlanRecord)
+        requires { is_sound (with_plan (standing_of self.old.slots self.old.clock (Some plan)) (contents self.old)) ≡ true }
+        ensures { contents self.new ≡ with_plan (standing_of self.old.slots self.old.clock (Some plan)) (contents self.old) }
+    {
+        self.plan = Some(plan);
+    }
+
     // Puts the best speeds of the slots left into the places of these slots, and answers their measure.
     fn best_speeds<T: Tariff, M: Measure>(
         &self,
@@ -108,7 +118,7 @@ impl Stay {
     {
         let mut best = PlanRecord::blank(M::mark_told());
         let measure = self.best_speeds(tariff, bytes, measures, &mut best.speeds)?;
-        self.plan = Some(best);
+        self.take_plan(best);
         Ok((self.slots_left(), measure))
     }
 }

@@ -41,7 +41,7 @@ opened-requires c =
     let me = c.args.self.now in
     let n = c.args.slots in
     let s = c.in_ok-listed.listed in
-    let t = taken c in
+    let t = taken (goal.at.opened-requires c).In_ok-listed in
     accepted_sound (contents me) (anew n (take s.count s.speeds)) (opening n c.args.speeds.now) me.sound t.0 (ap (anew n) t.1)
 
 pub returns-clause-follows : goal.returns-clause-follows

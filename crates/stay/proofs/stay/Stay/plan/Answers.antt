@@ -1,6 +1,6 @@
 use Rattle.std.proofs.Common.{◌-◌, length, take, drop, ap, ◌∙◌}
 use Rattle.measure.specs.Orders.{order_of}
-use Rattle.ledger.specs.Ledger.{planning, refusal}
+use Rattle.ledger.specs.Ledger.{planning, slots_left, refusal}
 use Rattle.stay.specs.declared.plan_record.PlanRecord.{PlanRecord}
 use Rattle.stay.specs.Contents.{contents}
 use Rattle.stay.specs.Tariffs.{charges_by}
@@ -22,19 +22,21 @@ returns-in_err-measure-clause-follows g c =
 -- the plan on the ledger
 taken : (g : given.Over) (c : In_ok-measure g) →
     let me = c.args.self.now in
-    Made g.M.Measure.laws (contents me) (charges_by g.T.Tariff.charge g.T.Tariff.bounded c.args.tariff.now) g.M.Measure.mark (length c.args.bytes.now) (length c.args.measures.now) c.blank-best.result.mark
+    let best = c.blank-best.result in
+    Made g.M.Measure.laws (contents me) (charges_by g.T.Tariff.charge g.T.Tariff.bounded c.args.tariff.now) g.M.Measure.mark (length c.args.bytes.now) (length c.args.measures.now) best.mark
     (take (me.slots - me.clock) (drop me.clock c.best_speeds.new.speeds)) c.in_ok-measure.measure
 taken g c =
     let me = c.args.self.now in
-    made g.M.Measure.laws (contents me) (charges_by g.T.Tariff.charge g.T.Tariff.bounded c.args.tariff.now) g.M.Measure.mark (length c.args.bytes.now) (length c.args.measures.now) c.blank-best.result.mark
+    let best = c.blank-best.result in
+    made g.M.Measure.laws (contents me) (charges_by g.T.Tariff.charge g.T.Tariff.bounded c.args.tariff.now) g.M.Measure.mark (length c.args.bytes.now) (length c.args.measures.now) best.mark
     (take (me.slots - me.clock) (drop me.clock c.best_speeds.new.speeds)) c.in_ok-measure.measure me.sound c.in_ok-measure.ensures.answer
     (ap (λ (p : PlanRecord). p.mark) c.blank-best.ensures ∙ c.mark_told.ensures) c.in_ok-measure.ensures.speeds
 
-pub invariant_of-self-clause-sound : goal.invariant_of-self-clause-sound
-invariant_of-self-clause-sound g c = (taken g c).sound_then
+pub take_plan-requires : goal.take_plan-requires
+take_plan-requires g c = (taken g (goal.at.take_plan-requires g c).In_ok-measure).sound_then
 
 pub returns-clause-follows : goal.returns-clause-follows
-returns-clause-follows g c = rw c.slots_left.ensures (taken g (goal.at.returns-clause-follows g c).In_ok-measure).follows
+returns-clause-follows g c = rw (c.slots_left.ensures ∙ ap slots_left c.take_plan.ensures, c.take_plan.ensures) (taken g (goal.at.returns-clause-follows g c).In_ok-measure).follows
 
 pub returns-clause-own : goal.returns-clause-own
-returns-clause-own g c = (taken g (goal.at.returns-clause-own g c).In_ok-measure).own
+returns-clause-own g c = rw c.take_plan.ensures (taken g (goal.at.returns-clause-own g c).In_ok-measure).own
