@@ -1,5 +1,5 @@
 -- The work of the slots ahead, and what planning makes of it.
-use Rattle.std.proofs.Common.{◌≡◌, ℕ, zero, suc, ◌+◌, ◌-◌, ◌*◌, ◌<◌, ◌≤◌, Bool, true, false, cond, not, ◌||◌, eqb, ltb, leb, List, [], ◌∷◌, length, get_or, take, None, Ok, Err, Result, sym, refl, ap, ◌∙◌, subst, ⊎_elim, arith, length-take-le, get_or-take}
+use Rattle.std.proofs.Common.{◌≡◌, ℕ, zero, suc, ◌+◌, ◌-◌, ◌*◌, ◌<◌, ◌≤◌, Bool, true, false, cond, not, ◌||◌, eqb, ltb, leb, List, [], ◌∷◌, length, get_or, take, set, None, Ok, Err, Result, MatchResult, IsErrAnd, sym, refl, ap, ◌∙◌, subst, ⊎_elim, arith, take_all, length-take-le, get_or-take}
 use borrow.Rule.Slice.PartMut.{mid_of, put_mid, put_same}
 use Rattle.std.specs.Array.{IsFromFnResultFrom, IsFromFnResult}
 use Rattle.std.specs.Fn.{Mut, Called}
@@ -27,7 +27,7 @@ use Rattle.ledger.specs.Queue.{arrived, owed, work}
 use Rattle.ledger.specs.Sound.{Sound}
 use Rattle.ledger.proofs.Arrivals.{open_work_arrives}
 use Rattle.ledger.proofs.Promised.{measured_plan}
-use Rattle.stay.specs.Calls.{or_short, Lent}
+use Rattle.stay.specs.Calls.{Lent}
 use Rattle.stay.specs.Works.{work_ahead, Placed}
 
 -- ## Sums within the open work
@@ -144,6 +144,17 @@ places_right l w =
     or_from (ltb 96 (l.clock + length (work_ahead l.queue l.clock (slots_left l)))) (not (eqb (slots_left l) (length (work_ahead l.queue l.clock (slots_left l)))))
     (le-ltb 96 _ (omega arith))
     (ap not (eq-eqb (slots_left l) (length (work_ahead l.queue l.clock (slots_left l))) (sym n)))
+
+-- what is left of the reasons for no plan on a stay: its speeds are lawful, its slots within the 96 and some sequence is in
+-- time, so any of them means short memory
+abbrev pub or_short : {M : Type 0} → Result M Unplanned → Result M Refusal
+or_short (Ok m) = Ok m
+or_short (Err u) = Err ShortMemory
+
+pub told_short : {M : Type 0} {Q : Unplanned → Refusal → Type 0} (r : Result M Unplanned) (s : Result M Refusal) → MatchResult r (λ m. s ≡ Ok m) (λ u. IsErrAnd s (Q u)) → ((u : Unplanned) (e : Refusal) → Q u e → e ≡ ShortMemory) → s ≡ or_short r
+told_short (Ok m) s h short = h
+told_short (Err u) (Ok m) h short = absurd h
+told_short (Err u) (Err e) h short = ap Err (short u e h)
 
 -- what planning leaves of lent memory, and of the places of the slots from a to e
 pub lent_kept : {M X : Type 0} (r : Result M Unplanned) (was is : List X) → length is ≡ length was → KeptUnlessPlanned r was is → Lent (or_short r) was is

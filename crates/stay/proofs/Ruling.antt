@@ -1,5 +1,6 @@
 -- The rules that refuse a call, by what is told of each.
-use Rattle.std.proofs.Common.{◌≡◌, ℕ, ◌+◌, Bool, true, false, not, ◌||◌, eqb, ltb, leb, List, length, Some, None, Ok, Err, Option, Result, sym, refl, ap, ◌∙◌, arith}
+use Rattle.std.proofs.Common.{◌≡◌, ℕ, ◌+◌, Bool, true, false, not, ◌||◌, eqb, ltb, leb, List, length, Some, None, Ok, Err, Option, Result, is_some, sym, refl, ap, ◌∙◌}
+use Rattle.std.specs.Option.{ok_or}
 use Rattle.recursion.specs.Speeds.{lawful_speeds}
 use Rattle.ledger.specs.declared.job.Job.{Job}
 use Rattle.ledger.specs.declared.refusal.Refusal.{Refusal}
@@ -12,12 +13,17 @@ use Rattle.stay.specs.BookingRules.{job_rules, queue_rules}
 -- ## A result that goes by the rules o
 
 pub told_which : {X : Type 0} (o : Option Refusal) (r : Refusal) (x : X) → Err r ≡ unless_refused o Err (Ok x) → o ≡ Some r
-told_which None r x e = let z : ◌≡◌ {A = ℕ} 0 1 = cc in absurd (omega arith)
+told_which None r x e = absurd cc
 told_which (Some s) r x e = cc
 
 pub told_none : {X : Type 0} (o : Option Refusal) (y x : X) → Ok y ≡ unless_refused o Err (Ok x) → (y ≡ x) × (o ≡ None)
 told_none None y x e = (cc, refl)
-told_none (Some s) y x e = let z : ◌≡◌ {A = ℕ} 0 1 = cc in absurd (omega arith)
+told_none (Some s) y x e = absurd cc
+
+-- the same where a value or the refusal e was asked
+pub rule_told : {X : Type 0} (o : Option X) (e r : Refusal) → Err r ≡ ok_or o e → rule e (not (is_some o)) None ≡ Some r
+rule_told None e r h = cc
+rule_told (Some x) e r h = absurd cc
 
 -- ## One rule or two; a and b are what their tests came to
 

@@ -1,5 +1,5 @@
 -- A call on a stay is a call on the ledger.
-use Rattle.std.proofs.Common.{◌≡◌, true, List, Some, None, Option, sym, ap, ◌∙◌, subst}
+use Rattle.std.proofs.Common.{◌≡◌, true, List, Some, None, Option, Ok, Err, Result, IsErrAnd, sym, ap, ◌∙◌, subst}
 use Rattle.ledger.specs.declared.job.Job.{Job}
 use Rattle.ledger.specs.declared.refusal.Refusal.{Refusal}
 use Rattle.ledger.specs.Answers.{Answer, refused, answered, answer}
@@ -11,7 +11,7 @@ use Rattle.ledger.proofs.Answered.{answer_lawful}
 use Rattle.ledger.proofs.Kept.{after_sound}
 use Rattle.ledger.proofs.Promised.{upheld, promised}
 use Rattle.ledger.proofs.Tested.{sound_is_tested}
-use Rattle.stay.specs.Calls.{OnLedger, Follows}
+use Rattle.stay.specs.Calls.{OnLedger, Follows, answer_of}
 
 -- what a stay holds is sound
 pub sound_holds : (l : Ledger) → sound l ≡ true → Sound l
@@ -45,6 +45,11 @@ pub refused_follows : (l : Ledger) (c : Call) (r : Refusal) → sound l ≡ true
 refused_follows l c r h e = follows l l c (refused r) h
     (sym (ap (λ (x : Option Refusal). unless_refused x (λ _. l) (accepted l c)) e))
     (sym (ap (λ (x : Option Refusal). unless_refused x refused (answered l c)) e))
+
+-- as a result hands it on
+pub err_follows : {X : Type 0} (f : X → Answer) (l : Ledger) (c : Call) (r : Refusal) (s : Result X Refusal) → IsErrAnd s (λ e. e ≡ r) → sound l ≡ true → refusal l c ≡ Some r → Follows l l c (answer_of f s)
+err_follows f l c r (Ok x) is h told = absurd is
+err_follows f l c r (Err e) is h told = refused_follows l c e h (told ∙ ap Some (sym is))
 
 pub accepted_step : (l m : Ledger) (c : Call) → refusal l c ≡ None → m ≡ accepted l c → m ≡ after l c
 accepted_step l m c e is = is ∙ sym (ap (λ (x : Option Refusal). unless_refused x (λ _. l) (accepted l c)) e)

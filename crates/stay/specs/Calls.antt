@@ -1,11 +1,9 @@
 -- Words: the answer and the verdict of a result, on the ledger, follows the ledger, own plan, kept, lent memory.
 use Rattle.std.specs.Prelude.{◌≡◌, ℕ, true, List, ◌∷◌, length, Some, None, Ok, Err, Option, Result}
 use Rattle.measure.specs.Kinds.{Kind, measure_of}
-use Rattle.recursion.specs.declared.unplanned.Unplanned.{Unplanned}
 use Rattle.recursion.specs.Pumps.{planned_speeds, LeastIs, PumpRecursion}
 use Rattle.recursion.specs.Staged.{Rising}
 use Rattle.ledger.specs.declared.refusal.Refusal.{Refusal}
-use Rattle.ledger.specs.declared.refusal.Refusal.TheVariants.{ShortMemory}
 use Rattle.ledger.specs.AnswerLaws.{AnswerIsLawful}
 use Rattle.ledger.specs.Answers.{Answer, refused, answer}
 use Rattle.ledger.specs.Ledger.{Ledger, Charges, Call, plan, pump_for, slots_left, charges_of, after, ledger}
@@ -70,12 +68,6 @@ PlansOwn q t mark l m (Err r) = Unit {0}
 abbrev pub MeasureIs : {M : Type 0} → Kind M → List ℕ → Result (ℕ × M) Refusal → Type 0
 MeasureIs q charges (Ok p) = p.1 ≡ measure_of q charges
 MeasureIs q charges (Err r) = Unit {0}
-
--- what is left of the reasons for no plan on a stay: its speeds are lawful, its slots within the 96 and some sequence is in
--- time, so any of them means short memory
-abbrev pub or_short : {M : Type 0} → Result M Unplanned → Result M Refusal
-or_short (Ok m) = Ok m
-or_short (Err u) = Err ShortMemory
 
 -- a value that a refusal leaves as it was
 abbrev pub Kept : {X Y : Type 0} → Result Y Refusal → X → X → Type 0

@@ -89,7 +89,7 @@ impl Stay {
         if !self.has_room_for(table) {
             return Err(Refusal::NotInTime);
         }
-        *self = self.with_jobs(table);
+        self.take_jobs(table);
         Ok(table.count as u8)
     }
 }

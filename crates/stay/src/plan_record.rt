@@ -1,22 +1,20 @@
 // The plan record of a stay.
-ghost use Rattle.std.specs.Prelude.{◌≡◌, false, replicate};
+ghost use Rattle.std.specs.Prelude.{◌≡◌, replicate};
 
-/// Whether a plan stands, its mark, and a speed for each slot.
+/// A standing plan: its mark, and a speed for each slot.
 #[derive(Clone, Copy)]
 pub(crate) struct PlanRecord {
-    pub(crate) stands: bool,
     pub(crate) mark: u8,
     pub(crate) speeds: [u8; 96],
 }
 
 impl PlanRecord {
-    /// No plan stands.
-    pub(crate) fn none() -> PlanRecord
-        ensures { result ≡ record { stands = false; mark = 0; speeds = replicate 96 0 } }
+    /// With a mark, and speed 0 in every slot until planning fills them in.
+    pub(crate) fn blank(mark: u8) -> PlanRecord
+        ensures { result ≡ record { mark = mark; speeds = replicate 96 0 } }
     {
         PlanRecord {
-            stands: false,
-            mark: 0,
+            mark,
             speeds: [0; 96],
         }
     }

@@ -1,14 +1,15 @@
 // Planning the slots left.
-ghost use Rattle.std.specs.Prelude.{◌≡◌, ◌+◌, ◌-◌, ◌≤◌, true, ◌&&◌, length, take, drop, Ok, Err, nat_le, nat_lt};
+ghost use Rattle.std.specs.Prelude.{◌≡◌, ◌+◌, ◌-◌, ◌≤◌, true, ◌&&◌, length, take, Some, Ok, Err, nat_le, nat_lt};
 ghost use Rattle.measure.specs.Kinds.{measure_of};
 ghost use Rattle.measure.specs.Orders.{order_of};
 ghost use Rattle.ledger.specs.Limits.{most_work};
 ghost use Rattle.ledger.specs.Queue.{arrived, owed, work as work_of};
-ghost use Rattle.ledger.specs.Ledger.{plan as plan_of, planning as planning_call, slots_left, plan_for, charges_of, refusal, unless_refused, with_plan};
+ghost use Rattle.ledger.specs.Ledger.{planning as planning_call, slots_left, plan_for, charges_of, refusal, unless_refused, with_plan};
 ghost use Rattle.ledger.specs.Answers.{planned};
 ghost use Rattle.ledger.specs.SoundTest.{sound as is_sound};
-ghost use Rattle.stay.specs.Calls.{Follows, PlansOwn, MeasureIs, Kept, Lent, answer_of, or_short};
+ghost use Rattle.stay.specs.Calls.{Follows, PlansOwn, MeasureIs, Kept, Lent, answer_of};
 ghost use Rattle.stay.specs.Contents.{contents};
+ghost use Rattle.stay.specs.Image.{standing_of};
 ghost use Rattle.stay.specs.Jobs.{queue_of};
 ghost use Rattle.stay.specs.Tariffs.{charges_by};
 ghost use Rattle.stay.specs.Works.{work_ahead, Placed};
@@ -19,7 +20,7 @@ use crate::stay::Stay;
 use crate::table::Table;
 use ledger::{Job, Refusal};
 use measure::Measure;
-use recursion::{SlotWork, Unplanned, plan};
+use recursion::{SlotWork, plan};
 use std::array::from_fn;
 use tariff::Tariff;
 
@@ -41,16 +42,6 @@ impl Table<Job> {
         ensures { take (ahead.slots - ahead.clock) result ≡ work_ahead (queue_of self.now) ahead.clock (ahead.slots - ahead.clock) }
     {
         from_fn(|i| self.slot_work(ahead.clock + i as u8))
-    }
-}
-
-// The answer of planning as that of a stay, on which only short memory can refuse a plan.
-fn or_short<M: Measure>(answer: Result<M, Unplanned>) -> Result<M, Refusal>
-    ensures { result ≡ or_short answer }
-{
-    match answer {
-        Ok(measure) => Ok(measure),
-        Err(_) => Err(Refusal::ShortMemory),
     }
 }
 
@@ -77,25 +68,15 @@ impl Stay {
     pub(crate) fn is_ahead(&self, slot: u32) -> bool
         ensures { result ≡ (nat_le self.now.clock slot && nat_lt slot self.now.slots) }
     {
-        self.clock as u32 <= slot && slot < self.slots as u32
+        (self.clock as u32..self.slots as u32).contains(&slot)
     }
 
-    // With another standing plan: a mark and a speed for each slot.
-    fn with_plan(self, mark: u8, chosen: [u8; 96]) -> Stay
-        requires { is_sound (with_plan (plan_of mark (take (self.slots - self.clock) (drop self.clock chosen))) (contents self)) ≡ true }
-        ensures { contents result ≡ with_plan (plan_of mark (take (self.slots - self.clock) (drop self.clock chosen))) (contents self) }
+    // Makes a plan the standing one.
+    fn take_plan(&mut self, plan: PlanRecord)
+        requires { is_sound (with_plan (standing_of self.old.slots self.old.clock (Some plan)) (contents self.old)) ≡ true }
+        ensures { contents self.new ≡ with_plan (standing_of self.old.slots self.old.clock (Some plan)) (contents self.old) }
     {
-        Stay {
-            slots: self.slots,
-            speeds: self.speeds,
-            clock: self.clock,
-            table: self.table,
-            plan: PlanRecord {
-                stands: true,
-                mark,
-                speeds: chosen,
-            },
-        }
+        self.plan = Some(plan);
     }
 
     // Puts the best speeds of the slots left into the places of these slots, and answers their measure.
@@ -106,8 +87,8 @@ impl Stay {
         measures: &mut [M],
         speeds: &mut [u8; 96],
     ) -> Result<M, Refusal>
-        ensures answer { result ≡ unless_refused (refusal (contents self.now) (planning_call (charges_by T.Tariff.charge T.Tariff.bounded tariff.now) (order_of M.Measure.laws) M.Measure.MARK (length bytes.old) (length measures.old))) Err (Ok (measure_of M.Measure.kind (charges_of (contents self.now) (charges_by T.Tariff.charge T.Tariff.bounded tariff.now) (plan_for (contents self.now) (charges_by T.Tariff.charge T.Tariff.bounded tariff.now) (order_of M.Measure.laws))))) }
-        ensures speeds { Placed result self.now.clock self.now.slots (plan_for (contents self.now) (charges_by T.Tariff.charge T.Tariff.bounded tariff.now) (order_of M.Measure.laws)) speeds.old speeds.new }
+        ensures answer { let t = charges_by T.Tariff.charge T.Tariff.bounded tariff.now in let best = plan_for (contents self.now) t (order_of M.Measure.laws) in result ≡ unless_refused (refusal (contents self.now) (planning_call t (order_of M.Measure.laws) M.Measure.MARK (length bytes.old) (length measures.old))) Err (Ok (measure_of M.Measure.kind (charges_of (contents self.now) t best))) }
+        ensures speeds { let t = charges_by T.Tariff.charge T.Tariff.bounded tariff.now in let best = plan_for (contents self.now) t (order_of M.Measure.laws) in Placed result self.now.clock self.now.slots best speeds.old speeds.new }
         ensures bytes { Lent result bytes.old bytes.new }
         ensures measures { Lent result measures.old measures.new }
     {
@@ -115,15 +96,17 @@ impl Stay {
         let first = self.clock as usize;
         let end = self.slots as usize;
         let work = self.table.work_ahead(self.ahead());
-        or_short(plan(
+        // On a stay only short memory can refuse a plan.
+        plan(
             tariff,
             self.speeds.listed(),
             first,
-            &work[0..left],
+            &work[..left],
             bytes,
             measures,
             &mut speeds[first..end],
-        ))
+        )
+        .map_err(|_| Refusal::ShortMemory)
     }
 
     /// Plans the slots left at the least measure, and makes that the standing plan; answers how many slots that is, and
@@ -135,16 +118,16 @@ impl Stay {
         bytes: &mut [u8],
         measures: &mut [M],
     ) -> Result<(u8, M), Refusal>
-        ensures follows { Follows (contents self.old) (contents self.new) (planning_call (charges_by T.Tariff.charge T.Tariff.bounded tariff.now) (order_of M.Measure.laws) M.Measure.MARK (length bytes.old) (length measures.old)) (answer_of (λ p. planned p.0 (charges_of (contents self.old) (charges_by T.Tariff.charge T.Tariff.bounded tariff.now) (plan_for (contents self.old) (charges_by T.Tariff.charge T.Tariff.bounded tariff.now) (order_of M.Measure.laws)))) result) }
-        ensures measure { MeasureIs M.Measure.kind (charges_of (contents self.old) (charges_by T.Tariff.charge T.Tariff.bounded tariff.now) (plan_for (contents self.old) (charges_by T.Tariff.charge T.Tariff.bounded tariff.now) (order_of M.Measure.laws))) result }
-        ensures own { PlansOwn M.Measure.kind (charges_by T.Tariff.charge T.Tariff.bounded tariff.now) M.Measure.MARK (contents self.old) (contents self.new) result }
+        ensures follows { let t = charges_by T.Tariff.charge T.Tariff.bounded tariff.now in let best = plan_for (contents self.old) t (order_of M.Measure.laws) in Follows (contents self.old) (contents self.new) (planning_call t (order_of M.Measure.laws) M.Measure.MARK (length bytes.old) (length measures.old)) (answer_of (λ p. planned p.0 (charges_of (contents self.old) t best)) result) }
+        ensures measure { let t = charges_by T.Tariff.charge T.Tariff.bounded tariff.now in let best = plan_for (contents self.old) t (order_of M.Measure.laws) in MeasureIs M.Measure.kind (charges_of (contents self.old) t best) result }
+        ensures own { let t = charges_by T.Tariff.charge T.Tariff.bounded tariff.now in PlansOwn M.Measure.kind t M.Measure.MARK (contents self.old) (contents self.new) result }
         ensures kept { Kept result self.old self.new }
         ensures bytes { Lent result bytes.old bytes.new }
         ensures measures { Lent result measures.old measures.new }
     {
-        let mut speeds = [0; 96];
-        let measure = self.best_speeds(tariff, bytes, measures, &mut speeds)?;
-        *self = self.with_plan(M::MARK, speeds);
+        let mut best = PlanRecord::blank(M::MARK);
+        let measure = self.best_speeds(tariff, bytes, measures, &mut best.speeds)?;
+        self.take_plan(best);
         Ok((self.slots_left(), measure))
     }
 }

@@ -18,33 +18,22 @@ impl Stay {
     pub(crate) fn job_at(&self, place: u32) -> Option<Job>
         ensures { result ≡ job_at (contents self.now) place }
     {
-        let place = place as usize;
-        if place < self.table.count {
-            Some(self.table.jobs[place])
-        } else {
-            None
-        }
+        let jobs = &self.table.jobs[..self.table.count];
+        jobs.get(place as usize).copied()
     }
 
     /// The standing speed of a slot not yet run.
     pub(crate) fn speed_at(&self, slot: u32) -> Option<u8>
         ensures { result ≡ speed_at (contents self.now) slot }
     {
-        if self.plan.stands && self.is_ahead(slot) {
-            Some(self.plan.speeds[slot as usize])
-        } else {
-            None
-        }
+        let plan = self.plan?;
+        self.is_ahead(slot).then(|| plan.speeds[slot as usize])
     }
 
     /// The mark of the standing plan.
     pub(crate) fn mark(&self) -> Option<u8>
         ensures { result ≡ mark_of (contents self.now) }
     {
-        if self.plan.stands {
-            Some(self.plan.mark)
-        } else {
-            None
-        }
+        self.plan.map(|plan| plan.mark)
     }
 }

@@ -16,6 +16,6 @@ pub(crate) struct Stay {
     pub(crate) speeds: SpeedList,
     pub(crate) clock: u8,
     pub(crate) table: Table<Job>,
-    pub(crate) plan: PlanRecord,
+    pub(crate) plan: Option<PlanRecord>,
     ghost sound: { is_sound (image slots speeds clock table plan) ≡ true },
 }

@@ -13,11 +13,10 @@ impl Stay {
         ensures follows { Follows (contents self.old) (contents self.new) (withdrawing_call number) (answer_of withdrew result) }
         ensures kept { Kept result self.old self.new }
     {
-        let Some(place) = self.table.find(number) else {
-            return Err(Refusal::NoSuchJob);
-        };
+        let place = self.table.find(number).ok_or(Refusal::NoSuchJob)?;
         let left = self.table.jobs[place].left;
-        *self = self.with_jobs(self.table.struck(place));
+        let table = self.table.struck(place);
+        self.take_jobs(table);
         Ok(left)
     }
 }

@@ -1,20 +1,13 @@
-use Rattle.std.proofs.Common.{◌≡◌, ℕ, ◌-◌, List, length, take, sym, ap, ◌∙◌, subst, arith, rules}
-use borrow.Rule.Slice.PartMut.{mid_of, put_mid}
-use Rattle.recursion.specs.declared.work.SlotWork.{SlotWork}
+use Rattle.std.proofs.Common.{◌≡◌, ℕ, ◌-◌, List, length, take, ap, ◌∙◌, arith, rules}
+use borrow.Rule.Slice.PartMut.{mid_of}
 use Rattle.recursion.specs.Planning.{places_after}
 use Rattle.measure.specs.Orders.{order_of}
-use Rattle.ledger.specs.Ledger.{slots_left, plan_for}
-use Rattle.stay.specs.Calls.{or_short, Lent}
+use Rattle.ledger.specs.Ledger.{plan_for}
 use Rattle.stay.specs.Contents.{contents}
 use Rattle.stay.specs.Tariffs.{charges_by}
-use Rattle.stay.specs.Works.{work_ahead, Placed}
-use Rattle.stay.proofs.Ahead.{lent_kept, placed, planned_ahead, stay_answer}
+use Rattle.stay.proofs.Ahead.{or_short, told_short, lent_kept, placed, planned_ahead, stay_answer}
 use Rattle.stay.proofs.Steps.{sound_holds}
 use Rattle.stay.proofs.stay.Stay.best_speeds.Goals as goal
-
--- the work ahead, as planning was told it
-told_work : (left slots clock : ℕ) (out ws : List SlotWork) → left ≡ slots - clock → take (slots - clock) out ≡ ws → take (left - 0) out ≡ ws
-told_work left slots clock out ws e is = let n : left - 0 ≡ slots - clock = omega arith in ap (λ (v : ℕ). take v out) n ∙ is
 
 pub returns : goal.returns
 returns g c =
@@ -27,14 +20,14 @@ returns g c =
     let laws = g.M.Measure.laws in
     let r = c.plan.result in
     let told = rw (c.ahead.ensures.slots, c.ahead.ensures.clock) at c.work_ahead-work.ensures in
-    let ws = told_work c.slots_left-left.result me.slots me.clock c.work_ahead-work.result (work_ahead l.queue l.clock (slots_left l)) c.slots_left-left.ensures told in
+    let ws = ap (λ (v : ℕ). take v c.work_ahead-work.result) c.slots_left-left.ensures ∙ told in
     let n : length c.args.speeds.now ≡ 96 = search rules in
+    let short = told_short r c.map_err.result c.map_err.ensures.cases (λ u e h. search rules) in
     record {
-      answer = c.or_short.ensures ∙ ap or_short c.plan.ensures.answer
-          ∙ stay_answer laws l t w (length c.args.bytes.now) (length c.args.measures.now) g.M.Measure.MARK _ _ _ c.listed.ensures ws (search rules);
-      speeds = subst (λ v. Placed v me.clock me.slots (plan_for l t (order_of laws)) c.args.speeds.now (put_mid me.clock (me.slots - me.clock) c.args.speeds.now c.plan.new.chosen)) (sym c.or_short.ensures)
+      answer = rw short (ap or_short c.plan.ensures.answer ∙ stay_answer laws l t w (length c.args.bytes.now) (length c.args.measures.now) g.M.Measure.MARK _ _ _ c.listed.ensures ws (search rules));
+      speeds = rw short
           (placed r me.clock me.slots c.args.speeds.now c.plan.new.chosen (plan_for l t (order_of laws)) (omega arith) (search rules)
           (c.plan.ensures.chosen ∙ ap (λ (v : List ℕ). places_after r v (mid_of me.clock (me.slots - me.clock) c.args.speeds.now)) (planned_ahead laws l t w _ _ c.listed.ensures ws)));
-      bytes = subst (λ v. Lent v c.args.bytes.now c.plan.new.bytes) (sym c.or_short.ensures) (lent_kept r c.args.bytes.now c.plan.new.bytes (search rules) c.plan.ensures.bytes);
-      measures = subst (λ v. Lent v c.args.measures.now c.plan.new.measures) (sym c.or_short.ensures) (lent_kept r c.args.measures.now c.plan.new.measures (search rules) c.plan.ensures.measures);
+      bytes = rw short (lent_kept r c.args.bytes.now c.plan.new.bytes (search rules) c.plan.ensures.bytes);
+      measures = rw short (lent_kept r c.args.measures.now c.plan.new.measures (search rules) c.plan.ensures.measures);
     }

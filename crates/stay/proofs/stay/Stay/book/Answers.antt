@@ -55,12 +55,12 @@ taken c =
     let is = c.entered-table.ensures.queue in
     (booking_rules_lem l j i q true told c.in_ok-admits.ensures.told is c.if-not-has_room_for.ensures, booking_step l j i q told is)
 
-pub with_jobs-requires : goal.with_jobs-requires
-with_jobs-requires c =
+pub take_jobs-requires : goal.take_jobs-requires
+take_jobs-requires c =
     let me = c.args.self.now in
     let l = contents me in
     let j = asked c.args.number c.args.release c.args.due c.args.work in
-    let t = taken (goal.at.with_jobs-requires c).Else-not-has_room_for in
+    let t = taken (goal.at.take_jobs-requires c).Else-not-has_room_for in
     accepted_sound l (with_queue (queue_of c.entered-table.result) l) (booking j) me.sound t.0 t.1
 
 pub returns : goal.returns
@@ -76,7 +76,7 @@ returns c =
     let more = ap length c.entered-table.ensures.queue ∙ length_enter c.in_ok-job.job l.queue in
     let count : table.count ≡ length l.queue + 1 = omega arith in
     record {
-      follows = accepted_follows l (contents c.with_jobs.result) (booking j) (booked table.count) me.sound t.0 (c.with_jobs.ensures ∙ t.1) (ap booked count);
+      follows = accepted_follows l (contents c.take_jobs.new.self) (booking j) (booked table.count) me.sound t.0 (c.take_jobs.ensures ∙ t.1) (ap booked count);
       exact = exact_verdict l j None me.sound t.0;
       kept = tt;
     }

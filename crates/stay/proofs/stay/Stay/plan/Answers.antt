@@ -1,61 +1,42 @@
-use Rattle.std.proofs.Common.{◌-◌, length, take, drop, refl}
-use Rattle.std.proofs.lemmas.Result.{err_from_is_err_and}
+use Rattle.std.proofs.Common.{◌-◌, length, take, drop, ap, ◌∙◌}
 use Rattle.measure.specs.Orders.{order_of}
-use Rattle.ledger.specs.Ledger.{planning, refusal}
+use Rattle.ledger.specs.Ledger.{planning, slots_left, refusal}
+use Rattle.stay.specs.declared.plan_record.PlanRecord.{PlanRecord}
 use Rattle.stay.specs.Contents.{contents}
 use Rattle.stay.specs.Tariffs.{charges_by}
-use Rattle.stay.proofs.Planned.{planned_sound, planned_follows, planned_own}
-use Rattle.stay.proofs.Ruling.{told_which, told_none}
-use Rattle.stay.proofs.Steps.{refused_follows}
+use Rattle.stay.proofs.Planned.{Made, made}
+use Rattle.stay.proofs.Ruling.{told_which}
+use Rattle.stay.proofs.Steps.{err_follows}
+use Rattle.stay.proofs.stay.Stay.plan.Given as given
 use Rattle.stay.proofs.stay.Stay.plan.Goals as goal
+use Rattle.stay.proofs.stay.Stay.plan.Goals.{In_ok-measure}
 
-pub returns-in_err-measure : goal.returns-in_err-measure
-returns-in_err-measure g c =
+pub returns-in_err-measure-clause-follows : goal.returns-in_err-measure-clause-follows
+returns-in_err-measure-clause-follows g c =
     let me = c.args.self.now in
     let l = contents me in
     let call = planning (charges_by g.T.Tariff.charge g.T.Tariff.bounded c.args.tariff.now) (order_of g.M.Measure.laws) g.M.Measure.MARK (length c.args.bytes.now) (length c.args.measures.now) in
     let r = c.in_err-measure.field-0.0 in
-    let p = err_from_is_err_and c.from_residual.result c.from_residual.ensures.1 in
-    rw (p.1, p.2)
-    record {
-      follows = refused_follows l call r me.sound (told_which (refusal l call) r _ c.in_err-measure.ensures.answer);
-      measure = tt;
-      own = tt;
-      kept = refl;
-      bytes = c.in_err-measure.ensures.bytes;
-      measures = c.in_err-measure.ensures.measures;
-    }
+    err_follows _ l call r _ c.from_residual.ensures.1 me.sound (told_which (refusal l call) r _ c.in_err-measure.ensures.answer)
 
-pub with_plan-requires : goal.with_plan-requires
-with_plan-requires g c =
+-- the plan on the ledger
+taken : (g : given.Over) (c : In_ok-measure g) →
     let me = c.args.self.now in
-    let l = contents me in
-    let t = charges_by g.T.Tariff.charge g.T.Tariff.bounded c.args.tariff.now in
-    let laws = g.M.Measure.laws in
-    let mark = g.M.Measure.MARK in
-    let bytes = length c.args.bytes.now in
-    let measures = length c.args.measures.now in
-    let a = told_none (refusal l (planning t (order_of laws) mark bytes measures)) _ _ c.in_ok-measure.ensures.answer in
-    planned_sound laws l t mark bytes measures me.sound a.1 c.MARK.result (take (me.slots - me.clock) (drop me.clock c.best_speeds.new.speeds)) c.MARK.ensures c.in_ok-measure.ensures.speeds
+    let best = c.blank-best.result in
+    Made g.M.Measure.laws (contents me) (charges_by g.T.Tariff.charge g.T.Tariff.bounded c.args.tariff.now) g.M.Measure.MARK (length c.args.bytes.now) (length c.args.measures.now) best.mark
+    (take (me.slots - me.clock) (drop me.clock c.best_speeds.new.speeds)) c.in_ok-measure.measure
+taken g c =
+    let me = c.args.self.now in
+    let best = c.blank-best.result in
+    made g.M.Measure.laws (contents me) (charges_by g.T.Tariff.charge g.T.Tariff.bounded c.args.tariff.now) g.M.Measure.MARK (length c.args.bytes.now) (length c.args.measures.now) best.mark
+    (take (me.slots - me.clock) (drop me.clock c.best_speeds.new.speeds)) c.in_ok-measure.measure me.sound c.in_ok-measure.ensures.answer
+    (ap (λ (p : PlanRecord). p.mark) c.blank-best.ensures ∙ c.MARK.ensures) c.in_ok-measure.ensures.speeds
 
-pub returns : goal.returns
-returns g c =
-    let me = c.args.self.now in
-    let l = contents me in
-    let n = contents c.with_plan.result in
-    let t = charges_by g.T.Tariff.charge g.T.Tariff.bounded c.args.tariff.now in
-    let laws = g.M.Measure.laws in
-    let mark = g.M.Measure.MARK in
-    let bytes = length c.args.bytes.now in
-    let measures = length c.args.measures.now in
-    let a = told_none (refusal l (planning t (order_of laws) mark bytes measures)) _ _ c.in_ok-measure.ensures.answer in
-    let ss = take (me.slots - me.clock) (drop me.clock c.best_speeds.new.speeds) in
-    let is = c.in_ok-measure.ensures.speeds in
-    record {
-      follows = planned_follows laws l t mark bytes measures me.sound a.1 n c.MARK.result ss c.with_plan.ensures c.MARK.ensures is c.slots_left.result c.slots_left.ensures;
-      measure = a.0;
-      own = planned_own laws l t mark bytes measures me.sound a.1 n c.MARK.result ss c.with_plan.ensures c.MARK.ensures is c.in_ok-measure.measure a.0;
-      kept = tt;
-      bytes = c.in_ok-measure.ensures.bytes;
-      measures = c.in_ok-measure.ensures.measures;
-    }
+pub take_plan-requires : goal.take_plan-requires
+take_plan-requires g c = (taken g (goal.at.take_plan-requires g c).In_ok-measure).sound_then
+
+pub returns-clause-follows : goal.returns-clause-follows
+returns-clause-follows g c = rw (c.slots_left.ensures ∙ ap slots_left c.take_plan.ensures, c.take_plan.ensures) (taken g (goal.at.returns-clause-follows g c).In_ok-measure).follows
+
+pub returns-clause-own : goal.returns-clause-own
+returns-clause-own g c = rw c.take_plan.ensures (taken g (goal.at.returns-clause-own g c).In_ok-measure).own

@@ -1,46 +1,49 @@
-use Rattle.std.proofs.Common.{◌≡◌, true, false, List, get_or, refl, ap, ◌∙◌}
-use Rattle.ledger.specs.declared.job.Job.{Job}
+use Rattle.std.proofs.Common.{◌≡◌, true, get_or, None, is_some, ap, ◌∙◌}
 use Rattle.ledger.specs.declared.refusal.Refusal.TheVariants.{NoSuchJob}
 use Rattle.ledger.specs.Answers.{withdrew}
-use Rattle.ledger.specs.Ledger.{withdrawing, with_queue, accepted}
+use Rattle.ledger.specs.Ledger.{withdrawing, refusal, with_queue, accepted}
 use Rattle.stay.specs.Contents.{contents}
 use Rattle.stay.specs.Jobs.{blank, queue_of}
-use Rattle.stay.proofs.Ruling.{withdrawing_rule}
-use Rattle.stay.proofs.Steps.{refused_follows, accepted_sound, accepted_follows}
+use Rattle.stay.proofs.Ruling.{rule_told, withdrawing_rule}
+use Rattle.stay.proofs.Steps.{err_follows, accepted_sound, accepted_follows}
 use Rattle.stay.proofs.Striking.{left_at}
 use Rattle.stay.proofs.stay.Stay.withdraw.Goals as goal
-use Rattle.stay.proofs.stay.Stay.withdraw.Goals.{After-struck}
+use Rattle.stay.proofs.stay.Stay.withdraw.Goals.{After-struck-table}
 
-pub returns-in_default : goal.returns-in_default
-returns-in_default c =
-    let me = c.args.self.now in
-    record {
-      follows = refused_follows (contents me) (withdrawing c.args.number) NoSuchJob me.sound (withdrawing_rule (contents me) c.args.number false c.in_default.ensures.found);
-      kept = refl;
-    }
-
--- the step of the ledger
-step : (c : After-struck) → let l = contents c.args.self.now in with_queue (queue_of c.struck.result) l ≡ accepted l (withdrawing c.args.number)
-step c =
+pub returns-in_err-place-clause-follows : goal.returns-in_err-place-clause-follows
+returns-in_err-place-clause-follows c =
     let l = contents c.args.self.now in
-    ap (λ (q : List Job). with_queue q l) (c.struck.ensures.strikes c.args.number c.in-Some.ensures.place)
+    let n = c.args.number in
+    let o = c.find.result in
+    let r = c.in_err-place.field-0.0 in
+    err_follows _ l (withdrawing n) r _ c.from_residual.ensures.1 c.args.self.now.sound (withdrawing_rule l n (is_some o) c.find.ensures.found ∙ rule_told o NoSuchJob r c.in_err-place.ensures.value)
 
-pub with_jobs-requires : goal.with_jobs-requires
-with_jobs-requires c =
+-- the call on the ledger
+taken : (c : After-struck-table) →
+    let l = contents c.args.self.now in
+    let call = withdrawing c.args.number in
+    (refusal l call ≡ None) × (with_queue (queue_of c.struck-table.result) l ≡ accepted l call)
+taken c =
+    let l = contents c.args.self.now in
+    let n = c.args.number in
+    let found = rw c.in_ok-place.ensures.ok_part at c.find.ensures.found in
+    let place = rw c.in_ok-place.ensures.ok_part at c.find.ensures.place in
+    (withdrawing_rule l n true found, ap (λ q. with_queue q l) (c.struck-table.ensures.strikes n place))
+
+pub take_jobs-requires : goal.take_jobs-requires
+take_jobs-requires c =
+    let me = c.args.self.now in
+    let l = contents me in
+    let t = taken (goal.at.take_jobs-requires c).After-struck-table in
+    accepted_sound l (with_queue (queue_of c.struck-table.result) l) (withdrawing c.args.number) me.sound t.0 t.1
+
+pub returns-clause-follows : goal.returns-clause-follows
+returns-clause-follows c =
     let me = c.args.self.now in
     let l = contents me in
     let n = c.args.number in
-    accepted_sound l (with_queue (queue_of c.struck.result) l) (withdrawing n) me.sound (withdrawing_rule l n true c.in-Some.ensures.found) (step c)
-
-pub returns : goal.returns
-returns c =
-    let me = c.args.self.now in
-    let l = contents me in
-    let n = c.args.number in
-    let i = c.in-Some.place in
-    let found = c.in-Some.ensures in
-    record {
-      follows = accepted_follows l (contents c.with_jobs.result) (withdrawing n) (withdrew (get_or me.table.jobs i blank).left) me.sound (withdrawing_rule l n true found.found)
-          (c.with_jobs.ensures ∙ step (goal.at.returns c).After-struck) (ap withdrew (left_at n me.table.count i me.table.jobs found.place));
-      kept = tt;
-    }
+    let i = c.in_ok-place.place in
+    let t = taken (goal.at.returns-clause-follows c).After-struck-table in
+    let place = rw c.in_ok-place.ensures.ok_part at c.find.ensures.place in
+    accepted_follows l (contents c.take_jobs.new.self) (withdrawing n) (withdrew (get_or me.table.jobs i blank).left) me.sound t.0
+    (c.take_jobs.ensures ∙ t.1) (ap withdrew (left_at n me.table.count i me.table.jobs place))
