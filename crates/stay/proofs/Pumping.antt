@@ -1,10 +1,10 @@
 -- A slot pumped, job by job, and the finished jobs left out.
-use Rattle.std.proofs.Common.{◌≡◌, ℕ, suc, ◌+◌, ◌-◌, ◌<◌, ◌≤◌, min, true, false, cond, eqb, leb, List, [], ◌∷◌, ◌++◌, length, get_or, take, drop, set, sym, refl, ap, ◌∙◌, subst, append_assoc, arith, drop_of_length-le, length-take-le, take_all, get_or-take, drop-set-lt}
+use Rattle.std.proofs.Common.{◌≡◌, ℕ, suc, ◌+◌, ◌-◌, ◌<◌, ◌≤◌, min, true, false, cond, not, eqb, leb, List, [], ◌∷◌, ◌++◌, length, filter, get_or, take, drop, set, sym, refl, ap, ◌∙◌, subst, append_assoc, arith, drop_of_length-le, length-take-le, take_all, get_or-take, drop-set-lt}
 use lib.Seq.{take-set-lt}
 use Rattle.std.proofs.lemmas.List.{drop_more, take_more_set, append-nil}
-use Rattle.std.proofs.lemmas.Bool.{cond_both, cond-true, cond-false}
+use Rattle.std.proofs.lemmas.Bool.{cond_both}
 use Rattle.ledger.specs.declared.job.Job.{Job}
-use Rattle.ledger.specs.Queue.{lower, share, pumped, units_pumped, finished, keep_open, unfinished}
+use Rattle.ledger.specs.Queue.{lower, share, pumped, units_pumped, finished, unfinished}
 use Rattle.stay.specs.Jobs.{blank}
 
 -- a job loses no more than the speed
@@ -68,28 +68,20 @@ lowered_all k speed want units q i r e u =
 
 -- ## Without the finished jobs
 
-pub kept_on : (js q : List Job) (n i : ℕ) → n < length js → i < length q → eqb (get_or q i blank).left 0 ≡ false →
-    take (n + 1) (set js n (get_or q i blank)) ++ unfinished (drop (i + 1) q) ≡ take n js ++ unfinished (drop i q)
-kept_on js q n i a b d =
-    let x = get_or q i blank in
-    let e : unfinished (drop i q) ≡ keep_open x (unfinished (drop (i + 1) q)) = ap unfinished (drop_more q i blank b) in
-    let f = cond-false (eqb x.left 0) (unfinished (drop (i + 1) q)) (x ∷ unfinished (drop (i + 1) q)) d in
-    ap (λ v. v ++ unfinished (drop (i + 1) q)) (take_more_set js n x a)
-    ∙ append_assoc (take n js) (x ∷ []) (unfinished (drop (i + 1) q))
-    ∙ ap (λ v. take n js ++ v) (sym (e ∙ f))
+-- those with something left
+pub filter_unfinished : (q : List Job) → filter (λ j. not (eqb j.left 0)) q ≡ unfinished q
+filter_unfinished [] = refl
+filter_unfinished (j ∷ q) =
+    let r = filter_unfinished q in
+    let more = filter (λ (i : Job). not (eqb i.left 0)) q in
+    elim (eqb j.left 0) as (λ b. cond (not b) (j ∷ more) more ≡ cond b (unfinished q) (j ∷ unfinished q)) [ true ↦ r | false ↦ ap (λ v. j ∷ v) r ]
 
-pub left_out : (js q : List Job) (n i : ℕ) → i < length q → eqb (get_or q i blank).left 0 ≡ true →
-    take n js ++ unfinished (drop (i + 1) q) ≡ take n js ++ unfinished (drop i q)
-left_out js q n i b d =
-    let x = get_or q i blank in
-    let e : unfinished (drop i q) ≡ keep_open x (unfinished (drop (i + 1) q)) = ap unfinished (drop_more q i blank b) in
-    let f = cond-true (eqb x.left 0) (unfinished (drop (i + 1) q)) (x ∷ unfinished (drop (i + 1) q)) d in
-    ap (λ v. take n js ++ v) (sym (e ∙ f))
-
-pub none_further : (p q want : List Job) (i : ℕ) → length q ≤ i → p ++ unfinished (drop i q) ≡ want → p ≡ want
-none_further p q want i e h =
-    let d : unfinished (drop i q) ≡ [] = ap unfinished (drop_of_length-le q {i = i} e) in
-    sym (append-nil p) ∙ ap (λ v. p ++ v) (sym d) ∙ h
+-- where two lists agree from place i on, they agree there
+pub same_here : (xs ys : List Job) (i : ℕ) (d : Job) → drop i ys ≡ drop i xs → i < length xs → i < length ys → get_or xs i d ≡ get_or ys i (get_or xs i d)
+same_here xs ys i d e a b =
+    let x = drop_more xs i d a in
+    let y = drop_more ys i (get_or xs i d) b in
+    cc
 
 -- the jobs are the open ones and the finished ones
 pub open_and_finished : (q : List Job) → length (unfinished q) + finished q ≡ length q

@@ -18,8 +18,7 @@ impl Stay {
     pub(crate) fn job_at(&self, place: u32) -> Option<Job>
         ensures { result ≡ job_at (contents self.now) place }
     {
-        let jobs = &self.table.jobs[..self.table.count];
-        jobs.get(place as usize).copied()
+        self.table.open().get(place as usize).copied()
     }
 
     /// The standing speed of a slot not yet run.

@@ -1,5 +1,5 @@
 // The test for room.
-ghost use Rattle.std.specs.Prelude.{◌≡◌, ℕ, ◌+◌, ◌-◌, ◌≤◌, min, List, take, replicate, nat_lt};
+ghost use Rattle.std.specs.Prelude.{◌≡◌, ℕ, ◌+◌, ◌-◌, ◌*◌, ◌≤◌, min, List, take, replicate, nat_lt};
 ghost use Rattle.tariff.specs.Checks.{TestIsExact};
 ghost use Rattle.ledger.specs.Queue.{arrived, owed};
 ghost use Rattle.ledger.specs.Ledger.{pump_for, no_charge, keeps_time};
@@ -14,9 +14,9 @@ use ledger::Job;
 impl Table<Job> {
     // The work done after a slot at a speed: no more than has arrived.
     fn done_after(&self, slot: u8, done: u32, speed: u8) -> u32
-        requires { done ≤ 4194240 }
+        requires { done ≤ 64 * 65535 }
         ensures work { result ≡ min (done + speed) (arrived (queue_of self.now) slot) }
-        ensures within { result ≤ 4194240 }
+        ensures within { result ≤ 64 * 65535 }
     {
         (done + speed as u32).min(self.arrived(slot))
     }
