@@ -41,17 +41,10 @@ fn lists_of_speeds(rt: HostRuntime) -> Result<(), Fail> {
     assert!(rt; SpeedList::from_slice(&[0, 3, 3]).is_none());
     assert!(rt; SpeedList::from_slice(&[1, 3]).is_none());
     assert!(rt; SpeedList::from_slice(&[0]).is_none());
-    match SpeedList::from_slice(&[0, 3, 15]) {
-        Some(speeds) => {
-            assert_eq!(rt; speeds.top(), 15);
-            assert_eq!(rt; speeds.listed().len(), 3);
-            Ok(())
-        }
-        None => {
-            assert!(rt; false);
-            Ok(())
-        },
-    }
+    let speeds = SpeedList::from_slice(&[0, 3, 15]).ok_or("the list is lawful")?;
+    assert_eq!(rt; speeds.top(), 15);
+    assert_eq!(rt; speeds.listed().len(), 3);
+    Ok(())
 }
 
 #[test]
@@ -84,15 +77,12 @@ fn a_slot_pumps_released_jobs(rt: HostRuntime) {
 }
 
 #[test]
-fn room_and_nesting(rt: HostRuntime) {
+fn room_and_nesting(rt: HostRuntime) -> Result<(), Fail> {
     let table = three_jobs();
-    match SpeedList::from_slice(&[0, 3]) {
-        Some(speeds) => {
-            assert!(rt; table.has_room(four_slots(0), speeds));
-            assert!(rt; !table.has_room(four_slots(1), speeds));
-        }
-        None => assert!(rt; false),
-    }
+    let speeds = SpeedList::from_slice(&[0, 3]).ok_or("the list is lawful")?;
+    assert!(rt; table.has_room(four_slots(0), speeds));
+    assert!(rt; !table.has_room(four_slots(1), speeds));
     assert!(rt; table.nests(0, job(5, 2, 3, 1)));
     assert!(rt; !table.nests(2, job(5, 2, 3, 1)));
+    Ok(())
 }
