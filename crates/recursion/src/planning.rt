@@ -38,8 +38,8 @@ fn fill<T: Tariff, M: Measure>(
     requires memory { (length slots.work.now * slots.width ≤ length bytes.old) × (2 * slots.width ≤ length measures.old) }
     requires possible { keeps_up (top_of speeds.listed.now) slots.work.now 0 ≡ true }
     requires reached { (i : ℕ) → i ≤ length slots.work.now → slice_index reach.now i ≡ reach_at (top_of speeds.listed.now) slots.work.now 0 i }
-    ensures table { HoldsPlan M.Measure.kind (pump_of speeds.entry.listed.now slots.entry.first slots.entry.work.now (T.Tariff.charge tariff.now)) (top_of speeds.entry.listed.now) slots.entry.first slots.entry.work.now slots.entry.width 0 bytes.new }
-    ensures answer { (s : ℕ) × (least M.Measure.kind (decisions (pump_of speeds.entry.listed.now slots.entry.first slots.entry.work.now (T.Tariff.charge tariff.now))) (length slots.entry.work.now) slots.entry.first 0 ≡ best s result) }
+    ensures table { let ss = speeds.entry.listed.now in let y = pump_of ss slots.entry.first slots.entry.work.now (T.Tariff.charge tariff.now) in HoldsPlan M.Measure.kind y (top_of ss) slots.entry.first slots.entry.work.now slots.entry.width 0 bytes.new }
+    ensures answer { let y = pump_of speeds.entry.listed.now slots.entry.first slots.entry.work.now (T.Tariff.charge tariff.now) in (s : ℕ) × (least M.Measure.kind (decisions y) (length slots.entry.work.now) slots.entry.first 0 ≡ best s result) }
 {
     let work = slots.work;
     let width = slots.width;
@@ -56,6 +56,7 @@ fn fill<T: Tariff, M: Measure>(
             need,
             arrived: slot.arrived as usize,
         };
+        // Cut out by its place: after `chunks_mut` a proof knows no element of the table.
         let picks = &mut bytes[i * width..(i + 1) * width];
         fill_row(tariff, speeds, slots.first + i, window, next, row, picks);
         (next, row) = (row, next);

@@ -38,6 +38,7 @@ fn start_row<M: Measure>(
     requires enough { window.need ≤ window.low + speed }
     ensures { (e : ℕ) → window.low ≤ e → e ≤ window.high → best (slice_index picks.new e) (slice_index_or row.new e M.Measure.kind.nought) ≡ offer M.Measure.kind measure window.arrived window.need next.now speed e }
 {
+    // By index, as in the loops below: after `iter_mut` a proof knows no element of a slice.
     for done in window.low..window.high + 1 {
         let then = (done + speed as usize).min(window.arrived);
         row[done] = with_rest(measure, next, then);
@@ -105,6 +106,7 @@ fn lower_row<M: Measure>(
 // Fills the row of a slot from that of the next one: at each work done of the window the lowest speed that comes to the
 // least, of those that do as much as is needed. Top speed does as much from the low on. The speeds are taken from the top
 // down, each over the whole row.
+// Window, rows and picks are no struct: each method would have to say which slices it leaves and which it lends back.
 pub(crate) fn fill_row<T: Tariff, M: Measure>(
     tariff: &T,
     speeds: LawfulSpeeds,
