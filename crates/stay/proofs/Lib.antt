@@ -1,4 +1,3 @@
-pub mod Places
 pub mod Entering
 pub mod Striking
 pub mod Adding

@@ -1,8 +1,8 @@
-use Rattle.std.proofs.Common.{◌≡◌, ℕ, ◌≤◌, false, get_or, length, take, ◌∙◌, subst, arith, length-set, take_all, rules}
+use Rattle.std.proofs.Common.{◌≡◌, ℕ, ◌≤◌, false, get_or, length, take, set, ◌∙◌, subst, arith, length-set, take_all, rules}
 use Rattle.std.proofs.lemmas.Bool.{false_from_ne_true}
+use Rattle.std.proofs.lemmas.List.{take_more_same, take-set, get_or-set_same}
 use Rattle.recursion.specs.Speeds.{lawful_speeds}
 use Rattle.recursion.proofs.Rising.{lawful_gives, each_low}
-use Rattle.stay.proofs.Places.{next_place}
 use Rattle.stay.proofs.speeds.as_bytes.Goals as goal
 
 pub loop-i-preserved : goal.loop-i-preserved
@@ -11,10 +11,12 @@ loop-i-preserved c =
     let i = c.loop-i.i in
     let out = c.loop-i.speeds in
     let inv = c.loop-i.invariant in
-    let same : c.in_ok-speeds.field-0 ≡ get_or ss i 0 = search rules in
+    let s = c.in_ok-speeds.field-0 in
+    let same : s ≡ get_or ss i 0 = search rules in
+    let long = length-set out i s ∙ inv.long in
     record {
-      long = length-set out i c.in_ok-speeds.field-0 ∙ inv.long;
-      same = next_place out ss i 0 c.in_ok-speeds.field-0 (omega (arith, inv.long)) c.loop-i-test.true inv.same same;
+      long = long;
+      same = take_more_same (set out i s) ss i 0 (omega arith) c.loop-i-test.true (take-set out i s ∙ inv.same) (get_or-set_same out i s 0 (omega (arith, inv.long)) ∙ same);
     }
 
 pub returns-in_err-speeds-clause-none : goal.returns-in_err-speeds-clause-none
