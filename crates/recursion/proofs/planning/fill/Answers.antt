@@ -98,14 +98,11 @@ loop-i-preserved g c =
       inv.3,
     )
 
-pub returns : goal.returns
-returns g c =
+pub returns-clause-answer : goal.returns-clause-answer
+returns-clause-answer g c =
     let ss = c.args.speeds.listed.now in
     let work = c.args.slots.work.now in
     let first = c.args.slots.first in
     let inv = c.loop-i.invariant in
     let end : length c.loop-i.i-iterator.iter.iter.rest.now ≡ 0 = omega (arith, c.in-None.ensures.steps.1.0) in
-    record {
-      table = λ j e h k from to. inv.2.table j e (omega arith) k from to;
-      answer = filled_first g.M.Measure.kind (pump_of ss first work (g.T.Tariff.charge c.args.tariff.now)) (top_of ss) first work c.args.slots.width c.loop-i.next.now c.loop-i.bytes c.loop-i.low (length c.loop-i.i-iterator.iter.iter.rest.now) c.index-next-0.result (omega arith) c.requires.possible (omega arith) c.index-next-0.is inv.2;
-    }
+    filled_first g.M.Measure.kind (pump_of ss first work (g.T.Tariff.charge c.args.tariff.now)) (top_of ss) first work c.args.slots.width c.loop-i.next.now c.loop-i.bytes c.loop-i.low (length c.loop-i.i-iterator.iter.iter.rest.now) c.index-next-0.result (omega arith) c.requires.possible (omega arith) c.index-next-0.is inv.2

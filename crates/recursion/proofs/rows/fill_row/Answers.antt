@@ -12,13 +12,6 @@ measure_at-requires g c =
     let l = lawful_gives c.args.speeds.listed.now c.args.speeds.lawful in
     (c.requires.slots, omega (arith, l.low_top, c.top-top.ensures))
 
-pub loop-speed-init : goal.loop-speed-init
-loop-speed-init g c =
-    let ss = c.args.speeds.listed.now in
-    let l = lawful_gives ss c.args.speeds.lawful in
-    picked_last (ranked g.M.Measure.laws) (g.T.Tariff.charge c.args.tariff.now c.args.slot) c.args.window.arrived c.args.window.need c.args.next.now ss
-    c.top-top.result _ c.measure_at.result c.args.window.low c.args.window.high c.start_row.new.picks c.start_row.new.row (omega (arith, l.some)) (omega arith) c.top-top.ensures c.measure_at.ensures c.start_row.ensures
-
 pub measure_at-requires-in-loop-speed : goal.measure_at-requires-in-loop-speed
 measure_at-requires-in-loop-speed g c =
     let ss = c.args.speeds.listed.now in
@@ -34,10 +27,3 @@ loop-speed-preserved g c =
     picked_before (ranked g.M.Measure.laws) (g.T.Tariff.charge c.args.tariff.now c.args.slot) c.args.window.arrived c.args.window.need c.args.next.now ss
     c.in-Some.speed.now _ (length ss - 1 - k) c.measure_at-in-loop-speed.result c.args.window.low c.args.window.high c.loop-speed.picks c.lower_row.new.picks c.loop-speed.row c.lower_row.new.row
     (omega (arith, t.0, more)) (omega arith) (t.1 ∙ ap (λ (v : ℕ). get_or ss v 0) (sym more)) c.measure_at-in-loop-speed.ensures c.loop-speed.invariant c.lower_row.ensures
-
-pub returns : goal.returns
-returns g c =
-    let ss = c.args.speeds.listed.now in
-    let t = YieldsList-end (YieldsList-from_rev_slice (take (length ss - 1) ss) cc) c.loop-speed.yielded _ c.loop-speed.yielded_by _ _ c.in-None.is c.next.ensures.steps in
-    picked_all (ranked g.M.Measure.laws) (g.T.Tariff.charge c.args.tariff.now c.args.slot) c.args.window.arrived c.args.window.need c.args.next.now ss
-    (length ss - 1 - length c.loop-speed.yielded) c.args.window.low c.args.window.high c.loop-speed.picks c.loop-speed.row (omega (arith, t.1, length-reverse (take (length ss - 1) ss), length-take-le (length ss - 1) ss (omega arith))) c.loop-speed.invariant

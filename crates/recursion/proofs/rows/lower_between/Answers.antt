@@ -5,9 +5,6 @@ use Rattle.recursion.proofs.Choosing.{lowered_none, lowered_turn}
 use Rattle.recursion.proofs.rows.lower_between.Goals as goal
 use Rattle.recursion.proofs.rows.lower_between.Goals.{then-takes_place, else-takes_place}
 
-pub loop-done-init : goal.loop-done-init
-loop-done-init g c f is = lowered_none g.M.Measure.kind (λ e. best c.args.speed (f e)) c.args.from c.args.picks.now c.args.row.now
-
 pub loop-done-preserved : goal.loop-done-preserved
 loop-done-preserved g c f is =
     let q = g.M.Measure.kind in

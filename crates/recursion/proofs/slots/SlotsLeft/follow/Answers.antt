@@ -2,18 +2,9 @@ use Rattle.std.proofs.Common.{sym, refl, ◌∙◌, arith}
 use Rattle.recursion.proofs.Following.{most_at, in_table, follow_step, follow_end}
 use Rattle.recursion.proofs.slots.SlotsLeft.follow.Goals as goal
 
-pub bounds-table-i : goal.bounds-table-i
-bounds-table-i c =
-    in_table _ c.loop-i.i c.args.self.width c.loop-i.done _ c.loop-i-test.true (omega (arith, c.loop-i.invariant.1, c.args.self.wide)) c.requires.0
-
 pub loop-i-preserved : goal.loop-i-preserved
 loop-i-preserved c = (
   follow_step c.args.self.width c.args.table.now c.args.self.work.now c.loop-i.chosen c.loop-i.i c.loop-i.done _ c.min-done.result c.loop-i-test.true (omega arith) refl c.min-done.ensures
       ∙ c.loop-i.invariant.0,
   omega (arith, most_at c.args.self.work.now c.loop-i.i, c.min-done.ensures),
 )
-
-pub returns : goal.returns
-returns c =
-    sym (follow_end c.args.self.width c.args.table.now c.args.self.work.now c.loop-i.chosen c.loop-i.i c.loop-i.done c.loop-i-test.false (omega arith))
-    ∙ c.loop-i.invariant.0
