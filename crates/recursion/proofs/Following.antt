@@ -10,13 +10,6 @@ most_at [] i = omega arith
 most_at (w ∷ ws) zero = omega arith
 most_at (w ∷ ws) (suc i) = omega (arith, most_at ws i)
 
--- a place in row i of the table
-pub in_table : (n i width e size : ℕ) → i < n → e < width → n * width ≤ size → i * width + e < size
-in_table n i width e size h inside fits =
-    let next : (i + 1) * width ≡ i * width + width = add-mul i 1 width ∙ ap (λ (v : ℕ). i * width + v) (one-mul width) in
-    let last : (i + 1) * width ≤ n * width = mul-le-mul_right width (omega arith) in
-    omega arith
-
 pub follow_step : (width : ℕ) (table : List ℕ) (ws : List SlotWork) (chosen : List ℕ) (i e s f : ℕ) → i < length ws → i < length chosen → s ≡ get_or table (i * width + e) 0 → f ≡ min (e + s) (arrived_at ws i) →
     take (i + 1) (set chosen i s) ++ followed width table (drop (i + 1) ws) (i + 1) f ≡ take i chosen ++ followed width table (drop i ws) i e
 follow_step width table ws chosen i e s f h inside is then =
@@ -29,9 +22,3 @@ follow_step width table ws chosen i e s f h inside is then =
     ∙ ap (λ (l : List ℕ). take i chosen ++ (s ∷ l)) there
     ∙ ap (λ (v : ℕ). take i chosen ++ (v ∷ rest)) is
     ∙ ap (λ (l : List ℕ). take i chosen ++ l) (sym (at_drop_more (λ l. followed width table l i e) ws i no_work h))
-
-pub follow_end : (width : ℕ) (table : List ℕ) (ws : List SlotWork) (chosen : List ℕ) (i e : ℕ) → length ws ≤ i → length chosen ≡ length ws → take i chosen ++ followed width table (drop i ws) i e ≡ chosen
-follow_end width table ws chosen i e h same =
-    ap (λ (l : List ℕ). take i chosen ++ l) (at_drop_all (λ l. followed width table l i e) ws i h)
-    ∙ append-nil (take i chosen)
-    ∙ take_all i chosen (omega arith)

@@ -13,20 +13,8 @@ pub record Reaching (top : ℕ) (ws : List SlotWork) (reach : List ℕ) (i : ℕ
   pub on : keeps_up top (drop i ws) (get_or reach i 0) ≡ keeps_up top ws 0
   pub small : get_or reach i 0 ≤ 65535
 
-at_first : (top : ℕ) (ws : List SlotWork) (j : ℕ) → j ≤ 0 → get_or (replicate 97 0) j 0 ≡ reach_at top ws 0 j
-at_first top ws zero h = refl
-at_first top ws (suc j) h = absurd (omega arith)
-
-pub reaching_first : (top : ℕ) (ws : List SlotWork) → Reaching top ws (replicate 97 0) 0
-reaching_first top ws = record { whole = refl; reached = at_first top ws; on = refl; small = omega arith }
-
 one_slot : (top : ℕ) (ws : List SlotWork) (i e : ℕ) → i < length ws → keeps_up top (drop i ws) e ≡ (leb (due_at ws i) (min (e + top) (arrived_at ws i)) && keeps_up top (drop (i + 1) ws) (min (e + top) (arrived_at ws i)))
 one_slot top ws i e h = at_drop_more (λ l. keeps_up top l e) ws i no_work h
-
-pub reaching_stop : (top : ℕ) (ws : List SlotWork) (reach : List ℕ) (i : ℕ) → i < length ws → Reaching top ws reach i → min (get_or reach i 0 + top) (arrived_at ws i) < due_at ws i → keeps_up top ws 0 ≡ false
-reaching_stop top ws reach i h inv lt =
-    let f = min (get_or reach i 0 + top) (arrived_at ws i) in
-    sym inv.on ∙ one_slot top ws i (get_or reach i 0) h ∙ ap (λ (b : Bool). b && keeps_up top (drop (i + 1) ws) f) (lt-leb (due_at ws i) f lt)
 
 pub reaching_next : (top : ℕ) (ws : List SlotWork) (reach : List ℕ) (i done : ℕ) → length ws ≤ 96 → i < length ws → Reaching top ws reach i → done ≡ min (get_or reach i 0 + top) (arrived_at ws i) → due_at ws i ≤ done → done ≤ 65535 → Reaching top ws (set reach (i + 1) done) (i + 1)
 reaching_next top ws reach i done few h inv is due small =
@@ -47,6 +35,3 @@ reaching_next top ws reach i done few h inv is due small =
           ∙ inv.on;
       small = subst (λ (v : ℕ). v ≤ 65535) (sym here) small;
     }
-
-pub reaching_end : (top : ℕ) (ws : List SlotWork) (reach : List ℕ) (i : ℕ) → length ws ≤ i → Reaching top ws reach i → keeps_up top ws 0 ≡ true
-reaching_end top ws reach i h inv = sym inv.on ∙ at_drop_all (λ l. keeps_up top l (get_or reach i 0)) ws i h

@@ -1,5 +1,5 @@
 use Rattle.std.proofs.Common.{sym, refl, ◌∙◌, arith}
-use Rattle.recursion.proofs.Following.{most_at, in_table, follow_step, follow_end}
+use Rattle.recursion.proofs.Following.{most_at, follow_step}
 use Rattle.recursion.proofs.slots.SlotsLeft.follow.Goals as goal
 
 pub loop-i-preserved : goal.loop-i-preserved

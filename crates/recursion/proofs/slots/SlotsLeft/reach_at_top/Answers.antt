@@ -1,6 +1,6 @@
 use Rattle.std.proofs.Common.{ℕ, ◌<◌, ◌≤◌, refl, subst, arith, rules}
 use Rattle.recursion.specs.Work.{arrived_at, due_at}
-use Rattle.recursion.proofs.Reaching.{reaching_first, reaching_stop, reaching_next, reaching_end}
+use Rattle.recursion.proofs.Reaching.{reaching_next}
 use Rattle.recursion.proofs.slots.SlotsLeft.reach_at_top.Goals as goal
 
 pub loop-i-preserved : goal.loop-i-preserved
