@@ -1,7 +1,8 @@
 -- From the rows and the table to what planning answers.
 use Rattle.std.proofs.Common.{◌≡◌, ℕ, suc, ◌+◌, ◌*◌, ◌<◌, ◌≤◌, min, true, false, cond, not, List, [], ◌∷◌, length, get_or, drop, Err, sym, refl, ap, ◌∙◌, subst, ⊎_elim, add-one, arith}
 use borrow.Author.Tests.{clash}
-use Rattle.std.proofs.lemmas.List.{length-drop, drop-drop, get_or-drop}
+use Rattle.std.proofs.Math.Seq.{drop-cons}
+use Rattle.std.proofs.lemmas.List.{length-drop}
 use Rattle.std.proofs.lemmas.Bool.{cases_lt, cond-false, not_from_true}
 use Rattle.measure.specs.Kinds.{Kind}
 use Rattle.recursion.specs.Staged.{Best, none, best, choice_of, least, planned, In}
@@ -18,18 +19,6 @@ use Rattle.recursion.proofs.Optimum.{none_best, optimal, recursion}
 use Rattle.recursion.proofs.Feeding.{Feeds, feeds_drop}
 use Rattle.recursion.proofs.Matters.{below_low, allowed_keeps_up, low_under, reach_next}
 
--- what stands at a place, and what stands behind it
-at_place : (work ws : List SlotWork) (w : SlotWork) (i : ℕ) → drop i work ≡ w ∷ ws → get_or work i no_work ≡ w
-at_place work ws w i e =
-    let here : i + 0 ≡ i = omega arith in
-    ap (λ (v : ℕ). get_or work v no_work) (sym here) ∙ sym (get_or-drop i work 0 no_work) ∙ ap (λ (l : List SlotWork). get_or l 0 no_work) e
-
-behind_place : (work ws : List SlotWork) (w : SlotWork) (i : ℕ) → drop i work ≡ w ∷ ws → drop (suc i) work ≡ ws
-behind_place work ws w i e = ap (λ (v : ℕ). drop v work) (sym (add-one i)) ∙ sym (drop-drop 1 i work) ∙ ap (drop 1) e
-
-inside_place : (work ws : List SlotWork) (w : SlotWork) (i : ℕ) → drop i work ≡ w ∷ ws → i < length work
-inside_place work ws w i e = omega (arith, length-drop i work, ap length e)
-
 module _ {M : Type 0} {q : Kind M} (laws : Ranked q) (y : Pump) (top : ℕ) (tops : (s : ℕ) → In s y.speeds → s ≤ top) (first : ℕ) (work : List SlotWork) (fed : Feeds y first work) where
   -- the speeds read off the table are the planned ones
   pub followed_planned : (width : ℕ) (table : List ℕ) → HoldsPlan q y top first work width 0 table → (ws : List SlotWork) (i e : ℕ) → drop i work ≡ ws → low_for top ws ≤ e → e ≤ reach_at top work 0 i → followed width table ws i e ≡ planned q (decisions y) (length ws) (first + i) e
@@ -37,7 +26,10 @@ module _ {M : Type 0} {q : Kind M} (laws : Ranked q) (y : Pump) (top : ℕ) (top
   followed_planned width table holds (w ∷ ws) i e at low high =
       let k = first + i in
       let s = get_or table (i * width + e) 0 in
-      let inside = inside_place work ws w i at in
+      let inside : i < length work = omega (arith, length-drop i work, ap length at) in
+      let split = drop-cons work i no_work inside in
+      let here : get_or work i no_work ≡ w = cc in
+      let behind : drop (suc i) work ≡ ws = cc in
       let feed : Feeds y k (w ∷ ws) = subst (λ (l : List SlotWork). Feeds y k l) at (feeds_drop y first work i fed) in
       let entry = holds i e (omega arith) inside (subst (λ (l : List SlotWork). low_for top l ≤ e) (sym at) low) high in
       let is : least q (decisions y) (suc (length ws)) k e ≡ best s entry.0 =
@@ -53,11 +45,11 @@ module _ {M : Type 0} {q : Kind M} (laws : Ranked q) (y : Pump) (top : ℕ) (top
       (λ le. le)
       (cases_lt f (low_for top ws)) in
       let far : reach_at top work 0 (suc i) ≡ min (reach_at top work 0 i + top) w.arrived =
-      reach_next top work 0 i inside ∙ ap (λ (v : SlotWork). min (reach_at top work 0 i + top) v.arrived) (at_place work ws w i at) in
+      reach_next top work 0 i inside ∙ ap (λ (v : SlotWork). min (reach_at top work 0 i + top) v.arrived) here in
       let high' : f ≤ reach_at top work 0 (suc i) = omega (arith, tops s fit.listed, far) in
       let on : first + suc i ≡ suc k = omega arith in
       let rest : followed width table ws (suc i) f ≡ planned q (decisions y) (length ws) (suc k) f =
-      followed_planned width table holds ws (suc i) f (behind_place work ws w i at) low' high' ∙ ap (λ (v : ℕ). planned q (decisions y) (length ws) v f) on in
+      followed_planned width table holds ws (suc i) f behind low' high' ∙ ap (λ (v : ℕ). planned q (decisions y) (length ws) v f) on in
       let chosen : s ≡ choice_of (least q (decisions y) (suc (length ws)) k e) = ap choice_of (sym is) in
       let P : ℕ → Type 0 = λ v. s ∷ followed width table ws (suc i) f ≡ v ∷ planned q (decisions y) (length ws) (suc k) (work_after y k e v) in
       subst P chosen (ap (λ (l : List ℕ). s ∷ l) (rest ∙ ap (planned q (decisions y) (length ws) (suc k)) (sym same)))

@@ -131,19 +131,6 @@ module _ {M : Type 0} {q : Kind M} (laws : Ranked q) where
     at_front e i h =
         at_drop_more (λ l. best_tried q charge arrived need next l e) ss i 0 h ∙ lowest_front (tried q charge arrived need next e) (get_or ss i 0) (drop (i + 1) ss)
 
-    -- a row with the last speed alone
-    pub picked_last : (s i : ℕ) (m : M) (low high : ℕ) (picks : List ℕ) (row : List M) → 0 < length ss → i ≡ length ss - 1 → s ≡ get_or ss (length ss - 1) 0 → m ≡ q.of (charge s) →
-        ((e : ℕ) → low ≤ e → e ≤ high → best (get_or picks e 0) (get_or row e q.nought) ≡ offer q m arrived need next s e) →
-        Picked q charge arrived need next (drop i ss) low high row picks
-    picked_last s i m low high picks row some last is measure started e lo hi =
-        let j = length ss - 1 in
-        let t = tried q charge arrived need next e (get_or ss j 0) in
-        let end : best_tried q charge arrived need next (drop (j + 1) ss) e ≡ none = at_drop_all (λ l. best_tried q charge arrived need next l e) ss (j + 1) (omega arith) in
-        started e lo hi
-        ∙ ap (λ (v : M). offer q v arrived need next s e) measure
-        ∙ ap (tried q charge arrived need next e) is
-        ∙ sym (ap (λ (v : ℕ). best_tried q charge arrived need next (drop v ss) e) last ∙ at_front e j (omega arith) ∙ ap (lower q t) end ∙ none_lower q t)
-
     -- a row lowered by the speed before
     pub picked_before : (s i l : ℕ) (m : M) (low high : ℕ) (p₀ p₁ : List ℕ) (r₀ r₁ : List M) → l ≡ i + 1 → l ≤ length ss → s ≡ get_or ss i 0 → m ≡ q.of (charge s) →
         Picked q charge arrived need next (drop l ss) low high r₀ p₀ →
@@ -155,6 +142,3 @@ module _ {M : Type 0} {q : Kind M} (laws : Ranked q) where
         ∙ ap (λ (v : ℕ). lower q (tried q charge arrived need next e v) (best (get_or p₀ e 0) (get_or r₀ e q.nought))) is
         ∙ ap (lower q (tried q charge arrived need next e (get_or ss i 0))) (before e lo hi ∙ ap (λ (v : ℕ). best_tried q charge arrived need next (drop v ss) e) on)
         ∙ sym (at_front e i (omega arith))
-
-    pub picked_all : (i low high : ℕ) (picks : List ℕ) (row : List M) → i ≡ 0 → Picked q charge arrived need next (drop i ss) low high row picks → Picked q charge arrived need next ss low high row picks
-    picked_all i low high picks row end inv e lo hi = inv e lo hi ∙ ap (λ (v : ℕ). best_tried q charge arrived need next (drop v ss) e) end

@@ -7,14 +7,8 @@ use Rattle.recursion.specs.Staged.{Staged, Best, none, best, choice_of, under, l
 use Rattle.recursion.specs.Optimality.{IsLeast, Fit, Recursion, Optimal}
 use Rattle.recursion.proofs.Ranked.{Ranked}
 
-best_choice : {M : Type 0} (s t : ℕ) (m n : M) → best s m ≡ best t n → s ≡ t
-best_choice s t m n e = cc
-
-best_measure : {M : Type 0} (s t : ℕ) (m n : M) → best s m ≡ best t n → m ≡ n
-best_measure s t m n e = cc
-
 pub none_best : {M : Type 0} (t : ℕ) (n : M) → none ≡ best t n → ⊥
-none_best t n e = let z : ◌≡◌ {A = ℕ} 0 1 = cc in omega arith
+none_best t n e = cc
 
 module _ {M : Type 0} {q : Kind M} (laws : Ranked q) where
   within_refl : (a : M) → q.not_above a a ≡ true
@@ -99,9 +93,9 @@ module _ {M : Type 0} {q : Kind M} (laws : Ranked q) where
       (subst (λ (b : Best M). under q b (best 0 (q.join m (measured q y (suc k) v cs))) ≡ true) (sym fit) tried)
 
   ahead_found : {X : Type 0} (y : Staged X) (n k : ℕ) (x : X) (c v : ℕ) (m : M) (z : Best M) → In c y.choices → y.allowed k x c ≡ true → least q y n (suc k) (y.next k x c) ≡ z → ahead q c (q.of (y.charge k x c)) z ≡ best v m → (c ≡ v) × Fit q y n k x c m
-  ahead_found y n k x c v m none listed fits after h = absurd (none_best v m h)
+  ahead_found y n k x c v m none listed fits after h = cc
   ahead_found y n k x c v m (best t o) listed fits after h =
-      (best_choice c v _ m h, record { listed = listed; allowed = fits; onward = t; rest = o; after = after; sum = best_measure c v _ m h })
+      (cc, record { listed = listed; allowed = fits; onward = t; rest = o; after = after; sum = cc })
 
   attempt_found : {X : Type 0} (y : Staged X) (n k : ℕ) (x : X) (c v : ℕ) (m : M) → In c y.choices → attempt q y n k x c ≡ best v m → (c ≡ v) × Fit q y n k x c m
   attempt_found y n k x c v m listed h =
@@ -120,7 +114,7 @@ module _ {M : Type 0} {q : Kind M} (laws : Ranked q) where
       (lowest_among none (attempt q y n k x) y.choices)
 
   attains : {X : Type 0} (y : Staged X) (n k : ℕ) (x : X) (c : ℕ) (m : M) → least q y n k x ≡ best c m → Allowed y n k x (planned q y n k x) × (measured q y k x (planned q y n k x) ≡ m)
-  attains y zero k x c m h = (tt, best_measure 0 c _ m h)
+  attains y zero k x c m h = (tt, cc)
   attains y (suc n) k x c m h =
       let w = found y n k x c m h in
       let ih = attains y n (suc k) (y.next k x c) w.onward w.rest w.after in

@@ -59,8 +59,8 @@ pub record Lawful (ss : List ℕ) (top : ℕ) : Type 0 where
   pub some : 2 ≤ length ss
   pub few : length ss ≤ 16
   pub low_top : top ≤ 15
+  pub from_nought : get_or ss 0 1 ≡ 0
   pub rising : Rising ss
-  pub is_last : top ≡ get_or ss (length ss - 1) 0
   pub under_top : (s : ℕ) → In s ss → s ≤ top
 
 above : (s : ℕ) (ss : List ℕ) → rises_from s ss ≡ true → (d : ℕ) → In d ss → s < d
@@ -98,8 +98,8 @@ lawful_gives (s ∷ ss) h =
       some = leb-true 2 (suc (length ss)) a.0;
       few = leb-true (suc (length ss)) 16 b.0;
       low_top = subst (λ (v : ℕ). v ≤ 15) last (leb-true (last_from s ss) 15 r.1);
+      from_nought = eqb-true s 0 z.0;
       rising = rising_from s ss r.0;
-      is_last = refl;
       under_top = λ d i. subst (λ (v : ℕ). d ≤ v) last (in_under_last s ss r.0 d i);
     }
 
@@ -146,18 +146,9 @@ list_passes (s ∷ ss) h =
     (and_from r l (rises_true s ss h.rising) (le-leb _ _ (h.to_fifteen (last_from s ss) (last_in s ss))))))
 
 list_keeps : (ss : List ℕ) → lawful_speeds ss ≡ true → LawfulList ss
-list_keeps [] h = absurd (clash h)
-list_keeps (s ∷ ss) h =
-    let w = lawful_gives (s ∷ ss) h in
-    let a = and_parts (leb 2 (length (s ∷ ss))) (leb (length (s ∷ ss)) 16 && (eqb s 0 && (rises_from s ss && leb (last_from s ss) 15))) h in
-    let b = and_parts (leb (length (s ∷ ss)) 16) (eqb s 0 && (rises_from s ss && leb (last_from s ss) 15)) a.1 in
-    record {
-      some = w.some;
-      few = w.few;
-      from_nought = eqb-true s 0 (and_parts (eqb s 0) (rises_from s ss && leb (last_from s ss) 15) b.1).0;
-      rising = w.rising;
-      to_fifteen = λ t i. omega (arith, w.under_top t i, w.low_top);
-    }
+list_keeps ss h =
+    let w = lawful_gives ss h in
+    record { some = w.some; few = w.few; from_nought = w.from_nought; rising = w.rising; to_fifteen = λ t i. omega (arith, w.under_top t i, w.low_top) }
 
 pub lawful_exact : (ss : List ℕ) → TestIsExact (LawfulList ss) (lawful_speeds ss)
 lawful_exact ss = record { passes = list_passes ss; keeps = list_keeps ss }

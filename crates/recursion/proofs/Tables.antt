@@ -35,19 +35,11 @@ reach_most top ws e zero = omega arith
 reach_most top [] e (suc i) = omega arith
 reach_most top (w ∷ ws) e (suc i) = omega (arith, reach_most top ws (min (e + top) w.arrived) i)
 
--- the slot at place i needs no more than has arrived, and its low is not above its reach
-pub record SlotRoom (top : ℕ) (ws : List SlotWork) (i : ℕ) : Type 0 where
-  pub enough : max (due_at ws i) (low_for top (drop (i + 1) ws)) ≤ arrived_at ws i
-  pub ordered : max (due_at ws i) (low_for top (drop (i + 1) ws)) - top ≤ reach_at top ws 0 i
-
-pub slot_room : (top : ℕ) (ws : List SlotWork) (i : ℕ) → i < length ws → keeps_up top ws 0 ≡ true → SlotRoom top ws i
+-- the slot at place i needs no more than has arrived
+slot_room : (top : ℕ) (ws : List SlotWork) (i : ℕ) → i < length ws → keeps_up top ws 0 ≡ true → max (due_at ws i) (low_for top (drop (i + 1) ws)) ≤ arrived_at ws i
 slot_room top ws i h up =
-    let here : keeps_up top (get_or ws i no_work ∷ drop (i + 1) ws) (reach_at top ws 0 i) ≡ true =
-    subst (λ (l : List SlotWork). keeps_up top l (reach_at top ws 0 i) ≡ true) (drop_more ws i no_work h) (keeps_up_on top ws 0 i up) in
-    record {
-      enough = need_under top (get_or ws i no_work) (drop (i + 1) ws) (reach_at top ws 0 i) here;
-      ordered = low_under top (get_or ws i no_work ∷ drop (i + 1) ws) (reach_at top ws 0 i) here;
-    }
+    need_under top (get_or ws i no_work) (drop (i + 1) ws) (reach_at top ws 0 i)
+    (subst (λ (l : List SlotWork). keeps_up top l (reach_at top ws 0 i) ≡ true) (drop_more ws i no_work h) (keeps_up_on top ws 0 i up))
 
 -- the slots from place i on are done: a row of measures for that slot, and the table
 pub record Filled {M : Type 0} (q : Kind M) (y : Pump) (top first : ℕ) (work : List SlotWork) (width : ℕ) (next : List M) (bytes : List ℕ) (low i : ℕ) : Type 0 where
@@ -117,7 +109,6 @@ module _ {M : Type 0} (q : Kind M) (y : Pump) (top : ℕ) (tops : (s : ℕ) → 
 -- what filling the slot at place i asks
 pub record Asked (top : ℕ) (work : List SlotWork) (i need low width : ℕ) : Type 0 where
   pub arrived_in : arrived_at work i < width
-  pub ordered : low ≤ reach_at top work 0 i
   pub high_in : reach_at top work 0 i < width
   pub enough : need ≤ min (low + top) (arrived_at work i)
   pub wide : (i + 1) * width ≡ i * width + width
@@ -125,13 +116,10 @@ pub record Asked (top : ℕ) (work : List SlotWork) (i need low width : ℕ) : T
 
 pub asked : (top : ℕ) (work : List SlotWork) (low i l need low' width : ℕ) → l ≡ i + 1 → l ≤ length work → keeps_up top work 0 ≡ true → low ≡ low_for top (drop l work) → need ≡ max (due_at work i) low → low' ≡ need - top → width ≡ most_arrived work + 1 → Asked top work i need low' width
 asked top work low i l need low' width on within up low_is needed lowered wide =
-    let room = slot_room top work i (omega arith) up in
     let need_is : need ≡ max (due_at work i) (low_for top (drop (i + 1) work)) = needed ∙ ap (max (due_at work i)) (low_is ∙ ap (λ (v : ℕ). low_for top (drop v work)) on) in
-    let near : need ≤ arrived_at work i = subst (λ (v : ℕ). v ≤ arrived_at work i) (sym need_is) room.enough in
-    let under : need - top ≤ reach_at top work 0 i = subst (λ (v : ℕ). v - top ≤ reach_at top work 0 i) (sym need_is) room.ordered in
+    let near : need ≤ arrived_at work i = subst (λ (v : ℕ). v ≤ arrived_at work i) (sym need_is) (slot_room top work i (omega arith) up) in
     record {
       arrived_in = omega (arith, most_at work i);
-      ordered = omega arith;
       high_in = omega (arith, reach_most top work 0 i);
       enough = omega arith;
       wide = add-mul i 1 width ∙ ap (λ (v : ℕ). i * width + v) (one-mul width);

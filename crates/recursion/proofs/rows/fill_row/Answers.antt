@@ -4,7 +4,7 @@ use Rattle.std.proofs.lemmas.Iterator.Adapters.{YieldsList-from_rev_slice}
 use Rattle.std.proofs.lemmas.Iterator.Consumers.{YieldsList-turn, YieldsList-end}
 use Rattle.recursion.proofs.Ranked.{ranked}
 use Rattle.recursion.proofs.Rising.{lawful_gives, each_low, from_top}
-use Rattle.recursion.proofs.Choosing.{picked_last, picked_before, picked_all}
+use Rattle.recursion.proofs.Choosing.{picked_before}
 use Rattle.recursion.proofs.rows.fill_row.Goals as goal
 
 pub measure_at-requires : goal.measure_at-requires
