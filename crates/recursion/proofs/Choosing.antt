@@ -1,7 +1,7 @@
 -- Lowering a row by one speed after another, from the last to the first.
 use Rattle.std.proofs.Common.{◌≡◌, ℕ, ◌+◌, ◌-◌, ◌<◌, ◌≤◌, min, max, Bool, true, false, leb, ◌≢◌, List, [], ◌∷◌, length, get_or, drop, set, sym, refl, ap, ◌∙◌, subst, ⊎_elim, arith}
 use borrow.Author.Tests.{clash}
-use Rattle.std.proofs.lemmas.List.{at_drop_more, at_drop_all, get_or_read, get_or-set_same, get_or-set_other}
+use Rattle.std.proofs.lemmas.List.{at_drop_more, get_or_read, get_or-set_same, get_or-set_other}
 use Rattle.std.proofs.lemmas.Bool.{cases_Bool, cases_lt, cond-true, cond-false, le-leb, lt-leb}
 use Rattle.measure.specs.Kinds.{Kind}
 use Rattle.recursion.specs.Staged.{Best, none, best, under, lower, lowest}

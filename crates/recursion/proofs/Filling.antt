@@ -1,9 +1,6 @@
 -- Filling charges and rows: one element more.
-use Rattle.std.proofs.Common.{◌≡◌, ℕ, zero, suc, ◌+◌, ◌<◌, ◌≤◌, ◌≢◌, List, [], ◌∷◌, length, get_or, set, ap, ◌∙◌, subst, ⊎_elim, arith}
-use Rattle.std.proofs.lemmas.List.{get_or-set_same, get_or-set_other}
-use Rattle.std.proofs.lemmas.Bool.{cases_lt}
+use Rattle.std.proofs.Common.{◌≡◌, ℕ, zero, suc, ◌<◌, List, [], ◌∷◌, length, get_or, subst, arith}
 use Rattle.std.specs.List.{FoldsTo}
-use Rattle.recursion.specs.Staged.{Best, best}
 
 -- what calls wrote that answer the same each time
 pub each_filled : {F M : Type 0} (R : F → M → F → Type 0) (f : F) (xs : List M) (g : F) → FoldsTo R f xs g → (d x : M) → ((y : M) (g : F) → R f y g → (y ≡ x) × (g ≡ f)) → (e : ℕ) → e < length xs → get_or xs e d ≡ x

@@ -1,6 +1,6 @@
 -- Reading the speeds off the table.
-use Rattle.std.proofs.Common.{◌≡◌, ℕ, zero, suc, ◌+◌, ◌*◌, ◌<◌, ◌≤◌, min, List, [], ◌∷◌, ◌++◌, length, get_or, take, drop, set, sym, ap, ◌∙◌, mul-le-mul_right, add-mul, one-mul, add-one, arith}
-use Rattle.std.proofs.lemmas.List.{append_assoc, append-nil, at_drop_more, at_drop_all, take_all, take_more_set}
+use Rattle.std.proofs.Common.{◌≡◌, ℕ, zero, suc, ◌+◌, ◌*◌, ◌<◌, ◌≤◌, min, List, [], ◌∷◌, ◌++◌, length, get_or, take, drop, set, sym, ap, ◌∙◌, add-one, arith}
+use Rattle.std.proofs.lemmas.List.{append_assoc, at_drop_more, take_more_set}
 use Rattle.recursion.specs.Rows.{followed}
 use Rattle.recursion.specs.Work.{no_work, arrived_at, most_arrived}
 use Rattle.recursion.specs.declared.work.SlotWork.{SlotWork}

@@ -1,5 +1,5 @@
 -- The rest of a planned list is planned.
-use Rattle.std.proofs.Common.{◌≡◌, ℕ, zero, suc, ◌+◌, List, [], ◌∷◌, ◌++◌, length, sym, refl, ap, ◌∙◌, arith}
+use Rattle.std.proofs.Common.{◌≡◌, ℕ, zero, suc, ◌+◌, [], ◌∷◌, ◌++◌, length, sym, refl, ap, ◌∙◌, arith}
 use Rattle.measure.specs.Kinds.{Kind}
 use Rattle.recursion.specs.Staged.{Staged, choice_of, least, planned}
 use Rattle.recursion.specs.Optimality.{state_after, RestIsPlanned}

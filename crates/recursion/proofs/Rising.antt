@@ -48,11 +48,7 @@ lawful_by_last (s ∷ ss) two few first rises =
     let b : leb (suc (length ss)) 16 ≡ true = le-leb _ _ few in
     let z : eqb s 0 ≡ true = eq-eqb s 0 first in
     let r : rises_from s ss ≡ true = rises in
-    ap (λ (v : ℕ). leb v 15) last
-    ∙ sym (ap (λ (v : Bool). v && (leb (suc (length ss)) 16 && (eqb s 0 && (rises_from s ss && leb (last_from s ss) 15)))) a
-    ∙ ap (λ (v : Bool). v && (eqb s 0 && (rises_from s ss && leb (last_from s ss) 15))) b
-    ∙ ap (λ (v : Bool). v && (rises_from s ss && leb (last_from s ss) 15)) z
-    ∙ ap (λ (v : Bool). v && leb (last_from s ss) 15) r)
+    simp (last, a, b, z, r)
 
 -- what a lawful list gives, with its last speed for the top
 pub record Lawful (ss : List ℕ) (top : ℕ) : Type 0 where
@@ -88,10 +84,10 @@ in_under_last s (t ∷ ss) h d (inr i) = in_under_last t ss (and_parts (ltb s t)
 pub lawful_gives : (ss : List ℕ) → lawful_speeds ss ≡ true → Lawful ss (get_or ss (length ss - 1) 0)
 lawful_gives [] h = absurd (clash h)
 lawful_gives (s ∷ ss) h =
-    let a = and_parts (leb 2 (length (s ∷ ss))) (leb (length (s ∷ ss)) 16 && (eqb s 0 && (rises_from s ss && leb (last_from s ss) 15))) h in
-    let b = and_parts (leb (length (s ∷ ss)) 16) (eqb s 0 && (rises_from s ss && leb (last_from s ss) 15)) a.1 in
-    let z = and_parts (eqb s 0) (rises_from s ss && leb (last_from s ss) 15) b.1 in
-    let r = and_parts (rises_from s ss) (leb (last_from s ss) 15) z.1 in
+    let a = and_parts _ _ h in
+    let b = and_parts _ _ a.1 in
+    let z = and_parts _ _ b.1 in
+    let r = and_parts _ _ z.1 in
     let at : suc (length ss) - 1 ≡ length ss = omega arith in
     let last : last_from s ss ≡ get_or (s ∷ ss) (suc (length ss) - 1) 0 = last_at s ss ∙ ap (λ (i : ℕ). get_or (s ∷ ss) i 0) (sym at) in
     record {
@@ -136,14 +132,10 @@ last_in s (t ∷ ss) = inr (last_in t ss)
 list_passes : (ss : List ℕ) → LawfulList ss → lawful_speeds ss ≡ true
 list_passes [] h = absurd (omega (arith, h.some))
 list_passes (s ∷ ss) h =
-    let r = rises_from s ss in
-    let l = leb (last_from s ss) 15 in
-    let z = eqb s 0 in
-    let b = leb (length (s ∷ ss)) 16 in
-    and_from (leb 2 (length (s ∷ ss))) (b && (z && (r && l))) (le-leb _ _ h.some)
-    (and_from b (z && (r && l)) (le-leb _ _ h.few)
-    (and_from z (r && l) (eq-eqb s 0 h.from_nought)
-    (and_from r l (rises_true s ss h.rising) (le-leb _ _ (h.to_fifteen (last_from s ss) (last_in s ss))))))
+    and_from _ _ (le-leb _ _ h.some)
+    (and_from _ _ (le-leb _ _ h.few)
+    (and_from _ _ (eq-eqb s 0 h.from_nought)
+    (and_from _ _ (rises_true s ss h.rising) (le-leb _ _ (h.to_fifteen (last_from s ss) (last_in s ss))))))
 
 list_keeps : (ss : List ℕ) → lawful_speeds ss ≡ true → LawfulList ss
 list_keeps ss h =

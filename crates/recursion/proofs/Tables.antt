@@ -106,41 +106,53 @@ module _ {M : Type 0} (q : Kind M) (y : Pump) (top : ℕ) (tops : (s : ℕ) → 
             (cases_lt i j);
       }
 
--- what filling the slot at place i asks
-pub record Asked (top : ℕ) (work : List SlotWork) (i need low width : ℕ) : Type 0 where
-  pub arrived_in : arrived_at work i < width
-  pub high_in : reach_at top work 0 i < width
-  pub enough : need ≤ min (low + top) (arrived_at work i)
+-- a turn at the slot w of place i, the last of those still to come: where it stands, and what filling its row asks
+pub record Turn (top : ℕ) (work rest' : List SlotWork) (w : SlotWork) (i l high need low low' width : ℕ) : Type 0 where
+  pub first_ones : rest' ≡ take (length rest') work
+  pub size : length rest' ≡ i
+  pub on : l ≡ i + 1
+  pub within : l ≤ length work
+  pub arrived : w.arrived ≡ arrived_at work i
+  pub needed : need ≡ max (due_at work i) low
+  pub lowered : low' ≡ need - top
+  pub high_is : high ≡ reach_at top work 0 i
+  pub arrived_in : w.arrived < width
+  pub high_in : high < width
+  pub enough : need ≤ min (low' + top) w.arrived
   pub wide : (i + 1) * width ≡ i * width + width
   pub last : (i + 1) * width ≤ length work * width
 
-pub asked : (top : ℕ) (work : List SlotWork) (low i l need low' width : ℕ) → l ≡ i + 1 → l ≤ length work → keeps_up top work 0 ≡ true → low ≡ low_for top (drop l work) → need ≡ max (due_at work i) low → low' ≡ need - top → width ≡ most_arrived work + 1 → Asked top work i need low' width
-asked top work low i l need low' width on within up low_is needed lowered wide =
-    let need_is : need ≡ max (due_at work i) (low_for top (drop (i + 1) work)) = needed ∙ ap (max (due_at work i)) (low_is ∙ ap (λ (v : ℕ). low_for top (drop v work)) on) in
+pub turn : (top : ℕ) (work rest rest' : List SlotWork) (w : SlotWork) (reach : List ℕ) (i need low low' width : ℕ) → rest ≡ take (length rest) work → rest ≡ rest' ++ (w ∷ []) → i ≡ length rest' →
+    ((j : ℕ) → j ≤ length work → get_or reach j 0 ≡ reach_at top work 0 j) → keeps_up top work 0 ≡ true → low ≡ low_for top (drop (length rest) work) → need ≡ max w.due low → low' ≡ need - top → width ≡ most_arrived work + 1 →
+    Turn top work rest' w i (length rest) (get_or reach i 0) need low low' width
+turn top work rest rest' w reach i need low low' width first_ones more place reached up low_is needed lowered wide =
+    let n = length rest' in
+    let size : length rest ≡ n + 1 = ap length more ∙ length_push rest' w in
+    let within : length rest ≤ length work = omega (arith, ap length first_ones, length-take (length rest) work) in
+    let cut : rest' ++ (w ∷ []) ≡ take n work ++ (get_or work n no_work ∷ []) = sym more ∙ first_ones ∙ ap (λ (v : ℕ). take v work) size ∙ take_more work n no_work (omega arith) in
+    let both = same_from_push rest' (take n work) w (get_or work n no_work) cut in
+    let here : w ≡ get_or work i no_work = both.1 ∙ ap (λ (v : ℕ). get_or work v no_work) (sym place) in
+    let arrived : w.arrived ≡ arrived_at work i = ap (λ (v : SlotWork). v.arrived) here in
+    let due_is : need ≡ max (due_at work i) low = needed ∙ ap (λ (v : SlotWork). max v.due low) here in
+    let on : length rest ≡ i + 1 = omega arith in
+    let need_is : need ≡ max (due_at work i) (low_for top (drop (i + 1) work)) = due_is ∙ ap (max (due_at work i)) (low_is ∙ ap (λ (v : ℕ). low_for top (drop v work)) on) in
     let near : need ≤ arrived_at work i = subst (λ (v : ℕ). v ≤ arrived_at work i) (sym need_is) (slot_room top work i (omega arith) up) in
+    let high = reached i (omega arith) in
     record {
+      first_ones = both.0;
+      size = sym place;
+      on = on;
+      within = within;
+      arrived = arrived;
+      needed = due_is;
+      lowered = lowered;
+      high_is = high;
       arrived_in = omega (arith, most_at work i);
       high_in = omega (arith, reach_most top work 0 i);
       enough = omega arith;
       wide = add-mul i 1 width ∙ ap (λ (v : ℕ). i * width + v) (one-mul width);
       last = mul-le-mul_right width (omega arith);
     }
-
--- the slots still to come are the first ones; the last of them is next
-pub record LastOf (work rest rest' : List SlotWork) (w : SlotWork) : Type 0 where
-  pub first_ones : rest' ≡ take (length rest') work
-  pub one_more : length rest ≡ length rest' + 1
-  pub within : length rest ≤ length work
-  pub here : w ≡ get_or work (length rest') no_work
-
-pub last_of : (work rest rest' : List SlotWork) (w : SlotWork) → rest ≡ take (length rest) work → rest ≡ rest' ++ (w ∷ []) → LastOf work rest rest' w
-last_of work rest rest' w first_ones more =
-    let n = length rest' in
-    let size : length rest ≡ n + 1 = ap length more ∙ length_push rest' w in
-    let within : length rest ≤ length work = omega (arith, ap length first_ones, length-take (length rest) work) in
-    let cut : rest' ++ (w ∷ []) ≡ take n work ++ (get_or work n no_work ∷ []) = sym more ∙ first_ones ∙ ap (λ (v : ℕ). take v work) size ∙ take_more work n no_work (omega arith) in
-    let both = same_from_push rest' (take n work) w (get_or work n no_work) cut in
-    record { first_ones = both.0; one_more = size; within = within; here = both.1 }
 
 pub row_size : (bytes : List ℕ) (a b width : ℕ) → b ≡ a + width → b ≤ length bytes → length (take (b - a) (drop a bytes)) ≡ width
 row_size bytes a b width e h = simp (length-take, length-drop) (omega arith)

@@ -53,21 +53,21 @@ fn takes_place<M: Measure>(here: M, held: M) -> bool
     here.not_above(held)
 }
 
-// Lowers a row by one speed at each work done from `from` to before `to`, where `offer` says what it comes to.
+// Lowers a row by one speed at each work done from `from` to before `to`, where `outcome` says what it comes to.
 fn lower_between<M: Measure, F: Fn(usize) -> M>(
     speed: u8,
-    offer: F,
+    outcome: F,
     from: usize,
     to: usize,
     row: &mut [M],
     picks: &mut [u8],
 )
     requires inside { (from ≤ to) × (to ≤ length row.old) × (to ≤ length picks.old) }
-    requires callable { (e : ℕ) → from ≤ e → e < to → F.pre offer e }
-    ensures { (f : ℕ → M) → ((e : ℕ) (m : M) → from ≤ e → e < to → F.post offer e m → m ≡ f e) → Lowered M.Measure.kind (λ e. best speed (f e)) from to picks.old row.old picks.new row.new }
+    requires callable { (e : ℕ) → from ≤ e → e < to → F.pre outcome e }
+    ensures { (f : ℕ → M) → ((e : ℕ) (m : M) → from ≤ e → e < to → F.post outcome e m → m ≡ f e) → Lowered M.Measure.kind (λ e. best speed (f e)) from to picks.old row.old picks.new row.new }
 {
     for done in from..to {
-        let here = offer(done);
+        let here = outcome(done);
         if takes_place(here, row[done]) {
             row[done] = here;
             picks[done] = speed;

@@ -1,13 +1,13 @@
-use Rattle.std.proofs.Common.{◌≡◌, ℕ, ◌+◌, ◌-◌, ◌*◌, ◌≤◌, max, List, ◌++◌, take, drop, length, get_or, sym, ap, ◌∙◌, subst, arith}
+use Rattle.std.proofs.Common.{◌≡◌, ℕ, ◌+◌, ◌-◌, ◌*◌, ◌≤◌, List, ◌++◌, take, drop, length, sym, ap, ◌∙◌, subst, arith}
 use Rattle.std.proofs.lemmas.List.{length-take, length-drop, take_all}
 use Rattle.recursion.specs.Windows.{reach_at}
 use Rattle.recursion.specs.Rows.{Picked}
 use Rattle.recursion.specs.Speeds.{top_of}
-use Rattle.recursion.specs.Work.{no_work, arrived_at, due_at, pump_of}
+use Rattle.recursion.specs.Work.{arrived_at, pump_of}
 use Rattle.recursion.specs.declared.work.SlotWork.{SlotWork}
 use Rattle.recursion.proofs.Feeding.{feeds_pump}
 use Rattle.recursion.proofs.Rising.{lawful_gives}
-use Rattle.recursion.proofs.Tables.{Filled, reach_most, row_size, asked, last_of, filled_first, filled_last, filled_next}
+use Rattle.recursion.proofs.Tables.{Filled, reach_most, row_size, turn, filled_first, filled_last, filled_next}
 use Rattle.recursion.proofs.planning.fill.Goals as goal
 
 pub last_row-requires : goal.last_row-requires
@@ -34,66 +34,41 @@ loop-i-init g c =
 
 pub invariant_of-window : goal.invariant_of-window
 invariant_of-window g c =
-    let ss = c.args.speeds.listed.now in
-    let work = c.args.slots.work.now in
-    let top = top_of ss in
-    let i = c.in-Some.i in
     let inv = c.loop-i.invariant in
-    let last = last_of work c.loop-i.i-iterator.iter.iter.rest.now c.next.new.self.iter.iter.rest.now c.in-Some.slot.now inv.1 c.in-Some.ensures.steps.1.0 in
-    let at : length c.next.new.self.iter.iter.rest.now ≡ i = omega (arith, c.in-Some.ensures.steps.1.1, inv.0) in
-    let need = c.max-need.result in
-    let low = c.saturating_sub-low.result in
-    let needed : need ≡ max (due_at work i) c.loop-i.low = c.max-need.ensures ∙ ap (λ (w : SlotWork). max w.due c.loop-i.low) (last.here ∙ ap (λ (v : ℕ). get_or work v no_work) at) in
-    let lowered : low ≡ need - top = omega (arith, c.saturating_sub-low.ensures, c.top-top.ensures) in
-    let a = asked top work c.loop-i.low i (length c.loop-i.i-iterator.iter.iter.rest.now) need low c.args.slots.width (omega (arith, last.one_more, at)) last.within c.requires.possible inv.2.low_is needed lowered c.args.slots.wide in
-    let high : get_or c.args.reach.now i 0 ≡ reach_at top work 0 i = c.requires.reached i (omega (arith, last.within, last.one_more, at)) in
-    let arrived : c.in-Some.slot.now.arrived ≡ arrived_at work i = ap (λ (w : SlotWork). w.arrived) (last.here ∙ ap (λ (v : ℕ). get_or work v no_work) at) in
-    record { near = omega (arith, high, a.high_in); told = omega (arith, a.arrived_in, arrived); enough = omega (arith, a.enough, arrived) }
+    let t = turn (top_of c.args.speeds.listed.now) c.args.slots.work.now c.loop-i.i-iterator.iter.iter.rest.now c.next.new.self.iter.iter.rest.now c.in-Some.slot.now c.args.reach.now c.in-Some.i c.max-need.result c.loop-i.low c.saturating_sub-low.result c.args.slots.width
+    inv.1 c.in-Some.ensures.steps.1.0 (omega (arith, c.in-Some.ensures.steps.1.1, inv.0)) c.requires.reached c.requires.possible inv.2.low_is c.max-need.ensures (omega (arith, c.saturating_sub-low.ensures, c.top-top.ensures)) c.args.slots.wide in
+    record { near = omega (arith, t.high_in); told = omega (arith, t.arrived_in); enough = omega (arith, t.enough) }
 
 pub fill_row-requires-clause-inside : goal.fill_row-requires-clause-inside
 fill_row-requires-clause-inside g c =
-    let ss = c.args.speeds.listed.now in
-    let work = c.args.slots.work.now in
-    let top = top_of ss in
-    let i = c.in-Some.i in
     let inv = c.loop-i.invariant in
-    let last = last_of work c.loop-i.i-iterator.iter.iter.rest.now c.next.new.self.iter.iter.rest.now c.in-Some.slot.now inv.1 c.in-Some.ensures.steps.1.0 in
-    let at : length c.next.new.self.iter.iter.rest.now ≡ i = omega (arith, c.in-Some.ensures.steps.1.1, inv.0) in
-    let need = c.max-need.result in
-    let low = c.saturating_sub-low.result in
-    let needed : need ≡ max (due_at work i) c.loop-i.low = c.max-need.ensures ∙ ap (λ (w : SlotWork). max w.due c.loop-i.low) (last.here ∙ ap (λ (v : ℕ). get_or work v no_work) at) in
-    let lowered : low ≡ need - top = omega (arith, c.saturating_sub-low.ensures, c.top-top.ensures) in
-    let a = asked top work c.loop-i.low i (length c.loop-i.i-iterator.iter.iter.rest.now) need low c.args.slots.width (omega (arith, last.one_more, at)) last.within c.requires.possible inv.2.low_is needed lowered c.args.slots.wide in
-    let high : get_or c.args.reach.now i 0 ≡ reach_at top work 0 i = c.requires.reached i (omega (arith, last.within, last.one_more, at)) in
-    let arrived : c.in-Some.slot.now.arrived ≡ arrived_at work i = ap (λ (w : SlotWork). w.arrived) (last.here ∙ ap (λ (v : ℕ). get_or work v no_work) at) in
-    (omega (arith, a.arrived_in, arrived, inv.3), omega (arith, high, a.high_in, inv.4), simp (length-take, length-drop) (omega (arith, high, a.high_in, a.wide, a.last, c.loop-i.auto.bytes, c.requires.memory.0)))
+    let t = turn (top_of c.args.speeds.listed.now) c.args.slots.work.now c.loop-i.i-iterator.iter.iter.rest.now c.next.new.self.iter.iter.rest.now c.in-Some.slot.now c.args.reach.now c.in-Some.i c.max-need.result c.loop-i.low c.saturating_sub-low.result c.args.slots.width
+    inv.1 c.in-Some.ensures.steps.1.0 (omega (arith, c.in-Some.ensures.steps.1.1, inv.0)) c.requires.reached c.requires.possible inv.2.low_is c.max-need.ensures (omega (arith, c.saturating_sub-low.ensures, c.top-top.ensures)) c.args.slots.wide in
+    (omega (arith, t.arrived_in, inv.3), omega (arith, t.high_in, inv.4), simp (length-take, length-drop) (omega (arith, t.high_in, t.wide, t.last, c.loop-i.auto.bytes, c.requires.memory.0)))
 
 pub loop-i-preserved : goal.loop-i-preserved
 loop-i-preserved g c =
-    let ss = c.args.speeds.listed.now in
-    let work = c.args.slots.work.now in
-    let top = top_of ss in
-    let i = c.in-Some.i in
     let inv = c.loop-i.invariant in
-    let last = last_of work c.loop-i.i-iterator.iter.iter.rest.now c.next.new.self.iter.iter.rest.now c.in-Some.slot.now inv.1 c.in-Some.ensures.steps.1.0 in
-    let at : length c.next.new.self.iter.iter.rest.now ≡ i = omega (arith, c.in-Some.ensures.steps.1.1, inv.0) in
-    let need = c.max-need.result in
-    let low = c.saturating_sub-low.result in
-    let needed : need ≡ max (due_at work i) c.loop-i.low = c.max-need.ensures ∙ ap (λ (w : SlotWork). max w.due c.loop-i.low) (last.here ∙ ap (λ (v : ℕ). get_or work v no_work) at) in
-    let lowered : low ≡ need - top = omega (arith, c.saturating_sub-low.ensures, c.top-top.ensures) in
-    let a = asked top work c.loop-i.low i (length c.loop-i.i-iterator.iter.iter.rest.now) need low c.args.slots.width (omega (arith, last.one_more, at)) last.within c.requires.possible inv.2.low_is needed lowered c.args.slots.wide in
-    let high : get_or c.args.reach.now i 0 ≡ reach_at top work 0 i = c.requires.reached i (omega (arith, last.within, last.one_more, at)) in
-    let arrived : c.in-Some.slot.now.arrived ≡ arrived_at work i = ap (λ (w : SlotWork). w.arrived) (last.here ∙ ap (λ (v : ℕ). get_or work v no_work) at) in
+    let t = turn (top_of c.args.speeds.listed.now) c.args.slots.work.now c.loop-i.i-iterator.iter.iter.rest.now c.next.new.self.iter.iter.rest.now c.in-Some.slot.now c.args.reach.now c.in-Some.i c.max-need.result c.loop-i.low c.saturating_sub-low.result c.args.slots.width
+    inv.1 c.in-Some.ensures.steps.1.0 (omega (arith, c.in-Some.ensures.steps.1.1, inv.0)) c.requires.reached c.requires.possible inv.2.low_is c.max-need.ensures (omega (arith, c.saturating_sub-low.ensures, c.top-top.ensures)) c.args.slots.wide in
     let q = g.M.Measure.kind in
     let charge = g.T.Tariff.charge c.args.tariff.now in
+    let ss = c.args.speeds.listed.now in
+    let work = c.args.slots.work.now in
     let first = c.args.slots.first in
     let width = c.args.slots.width in
+    let i = c.in-Some.i in
+    let low = c.saturating_sub-low.result in
+    let row = c.fill_row.new.row in
+    let picks = c.fill_row.new.picks in
     let y = pump_of ss first work charge in
-    let picked = subst (λ (v : ℕ). Picked q (charge (first + i)) v need c.loop-i.next.now ss low (reach_at top work 0 i) c.fill_row.new.row c.fill_row.new.picks) arrived (subst (λ (v : ℕ). Picked q (charge (first + i)) c.in-Some.slot.now.arrived need c.loop-i.next.now ss low v c.fill_row.new.row c.fill_row.new.picks) high c.fill_row.ensures) in
-    let filled = filled_next q y top (lawful_gives ss c.args.speeds.lawful).under_top first work (feeds_pump ss first work charge) width i (length c.loop-i.i-iterator.iter.iter.rest.now) c.loop-i.next.now c.fill_row.new.row c.loop-i.bytes c.fill_row.new.picks c.loop-i.low need low (omega (arith, last.one_more, at)) last.within inv.2 needed lowered (omega (arith, c.args.slots.wide)) (c.fill_row.auto.picks ∙ row_size c.loop-i.bytes (i * width) ((i + 1) * width) width a.wide (omega (arith, a.last, c.loop-i.auto.bytes, c.requires.memory.0))) (omega (arith, c.loop-i.auto.bytes, c.requires.memory.0)) picked in (
+    let P : ℕ → ℕ → Type 0 = λ a h. Picked q (charge (first + i)) a c.max-need.result c.loop-i.next.now ss low h row picks in
+    let picked : P (arrived_at work i) (reach_at (top_of ss) work 0 i) = subst (λ (a : ℕ). P a (reach_at (top_of ss) work 0 i)) t.arrived (subst (P c.in-Some.slot.now.arrived) t.high_is c.fill_row.ensures) in
+    let filled = filled_next q y (top_of ss) (lawful_gives ss c.args.speeds.lawful).under_top first work (feeds_pump ss first work charge) width i _ c.loop-i.next.now row c.loop-i.bytes picks c.loop-i.low c.max-need.result low t.on t.within inv.2 t.needed t.lowered (omega (arith, c.args.slots.wide))
+    (c.fill_row.auto.picks ∙ row_size c.loop-i.bytes (i * width) ((i + 1) * width) width t.wide (omega (arith, t.last, c.loop-i.auto.bytes, c.requires.memory.0))) (omega (arith, c.loop-i.auto.bytes, c.requires.memory.0)) picked in (
       omega (arith, c.in-Some.ensures.steps.0, inv.0),
-      last.first_ones,
-      subst (λ (v : ℕ). Filled q y top first work width c.fill_row.new.row (take (i * width) c.loop-i.bytes ++ (c.fill_row.new.picks ++ drop ((i + 1) * width - i * width) (drop (i * width) c.loop-i.bytes))) low v) (sym at) filled,
+      t.first_ones,
+      subst (λ (v : ℕ). Filled q y (top_of ss) first work width row (take (i * width) c.loop-i.bytes ++ (picks ++ drop ((i + 1) * width - i * width) (drop (i * width) c.loop-i.bytes))) low v) (sym t.size) filled,
       omega (arith, c.fill_row.auto.row, inv.4),
       inv.3,
     )

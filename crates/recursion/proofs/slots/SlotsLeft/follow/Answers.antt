@@ -1,4 +1,4 @@
-use Rattle.std.proofs.Common.{sym, refl, ◌∙◌, arith}
+use Rattle.std.proofs.Common.{refl, ◌∙◌, arith}
 use Rattle.recursion.proofs.Following.{most_at, follow_step}
 use Rattle.recursion.proofs.slots.SlotsLeft.follow.Goals as goal
 

@@ -1,5 +1,5 @@
-use Rattle.std.proofs.Common.{ℕ, ◌<◌, ◌≤◌, refl, subst, arith, rules}
-use Rattle.recursion.specs.Work.{arrived_at, due_at}
+use Rattle.std.proofs.Common.{◌≤◌, arith, rules}
+use Rattle.recursion.specs.Work.{arrived_at}
 use Rattle.recursion.proofs.Reaching.{reaching_next}
 use Rattle.recursion.proofs.slots.SlotsLeft.reach_at_top.Goals as goal
 
