@@ -1,6 +1,6 @@
 -- The open work has arrived by the last slot.
 use Rattle.std.proofs.Common.{◌≡◌, ℕ, ◌+◌, ◌-◌, leb, List, [], ◌∷◌, refl, ap, ◌∙◌, arith}
-use Rattle.std.proofs.lemmas.Bool.{cond-true, le-leb}
+use Rattle.std.proofs.lemmas.Bool.Decides.{nat_tests}
 use Rattle.ledger.specs.declared.job.Job.{Job}
 use Rattle.ledger.specs.Queue.{Each, arrived, work}
 use Rattle.ledger.specs.Ledger.{Ledger}
@@ -9,13 +9,11 @@ use Rattle.ledger.specs.Theorems.{OpenWorkArrives}
 
 all_arrived : (clock slots : ℕ) (q : List Job) → Each (Fair clock slots) q → arrived q (slots - 1) ≡ work q
 all_arrived clock slots [] h = refl
-all_arrived clock slots (j ∷ q) (f, r) =
-    ap (λ (v : ℕ). v + arrived q (slots - 1)) (cond-true (leb j.release (slots - 1)) j.left 0 (le-leb j.release (slots - 1) (omega (arith, f.released_before_due, f.due_within))))
-    ∙ ap (λ (v : ℕ). j.left + v) (all_arrived clock slots q r)
+all_arrived clock slots (j ∷ q) (f, r) = grind (arith, nat_tests, all_arrived clock slots q r)
 
 none_open : (clock slots : ℕ) (q : List Job) → clock ≡ slots → Each (Fair clock slots) q → q ≡ []
 none_open clock slots [] e h = refl
-none_open clock slots (j ∷ q) e (f, r) = absurd (omega (arith, f.due_ahead, f.due_within))
+none_open clock slots (j ∷ q) e (f, r) = absurd (omega arith)
 
 pub open_work_arrives : (l : Ledger) → Sound l → OpenWorkArrives l
 open_work_arrives l w =

@@ -1,8 +1,9 @@
 -- Sequences of listed speeds: the planned one is best, and top speed decides whether there is any.
-use Rattle.std.proofs.Common.{◌≡◌, ℕ, zero, suc, ◌-◌, Bool, true, leb, List, [], ◌∷◌, length, replicate, sym, refl, ap, ◌∙◌, subst, arith}
+use Rattle.std.proofs.Common.{◌≡◌, ℕ, zero, suc, ◌-◌, ◌≤◌, Bool, true, Decides, leb, List, [], ◌∷◌, length, replicate, sym, refl, ap, ◌∙◌, subst, arith}
 use borrow.Author.Tests.{clash}
 use lib.ListN.{length-replicate}
-use Rattle.std.proofs.lemmas.Bool.{leb-true, le-leb, and_parts, and_from}
+use Rattle.std.proofs.lemmas.Bool.{leb-true, le-leb}
+use Rattle.std.proofs.lemmas.Bool.Decides.{Decides-and}
 use Rattle.measure.specs.Kinds.{measure_of}
 use Rattle.measure.specs.Orders.{Order, charge_lists}
 use Rattle.recursion.specs.Staged.{In}
@@ -26,7 +27,7 @@ lists_measure f (c ∷ cs) = ap (λ v. c ∷ v) (lists_measure f cs)
 
 -- a sequence under other charges
 pub sequence_under : (speeds : List ℕ) (charge charge' : ℕ → ℕ → ℕ) (q : List Job) (n k : ℕ) (ss : List ℕ) → InTimeSequence (pump_for speeds q charge) n k 0 ss → InTimeSequence (pump_for speeds q charge') n k 0 ss
-sequence_under speeds charge charge' q n k ss w = record { each_slot = w.each_slot; listed = w.listed; in_time = recharged speeds speeds charge charge' q k 0 ss w.in_time }
+sequence_under speeds charge charge' q n k ss w = record { each_slot = w.each_slot; listed = w.listed; in_time = recharged speeds charge charge' q k 0 ss w.in_time }
 
 -- where some sequence is in time, the planned one is, and none is below it
 pub plan_best : (l : Ledger) (t : Charges) (o : Order) (ss : List ℕ) → Sequence l l.queue ss →
@@ -43,25 +44,17 @@ plan_best l t o ss r =
     let x = w.exists ss (under ss r) in
     let b = w.planned_is_best x.0 x.1 in (
       sequence_under l.speeds t.charge no_charge l.queue n k ps b.in_time,
-      λ rs u.
-          subst (λ (v : List ℕ). f v (charges_from y k rs) ≡ true) (sym b.measure ∙ lists_measure f (charges_from y k ps))
-          (subst (λ (v : List ℕ). f x.0 v ≡ true) (lists_measure f (charges_from y k rs)) (b.none_below rs (under rs u))),
+      λ rs u. rw (← b.measure, lists_measure f (charges_from y k ps), lists_measure f (charges_from y k rs)) at (b.none_below rs (under rs u)),
     )
 
 -- ## Top speed
 
-pub keeps_in_time : (y : Pump) (k e : ℕ) (ss : List ℕ) → keeps_time y k e ss ≡ true → InTime y k e ss
-keeps_in_time y k e [] h = tt
-keeps_in_time y k e (s ∷ ss) h =
-    let p = and_parts (leb (y.due (suc k)) (work_after y k e s)) (keeps_time y (suc k) (work_after y k e s) ss) h in
-    (leb-true (y.due (suc k)) (work_after y k e s) p.0, keeps_in_time y (suc k) (work_after y k e s) ss p.1)
+pub decides_leb : (a b : ℕ) → Decides (leb a b) (a ≤ b)
+decides_leb a b = (leb-true a b, le-leb a b)
 
-pub in_time_keeps : (y : Pump) (k e : ℕ) (ss : List ℕ) → InTime y k e ss → keeps_time y k e ss ≡ true
-in_time_keeps y k e [] h = refl
-in_time_keeps y k e (s ∷ ss) (h, hs) =
-    and_from (leb (y.due (suc k)) (work_after y k e s)) (keeps_time y (suc k) (work_after y k e s) ss)
-    (le-leb (y.due (suc k)) (work_after y k e s) h)
-    (in_time_keeps y (suc k) (work_after y k e s) ss hs)
+pub decides_in_time : (y : Pump) (k e : ℕ) (ss : List ℕ) → Decides (keeps_time y k e ss) (InTime y k e ss)
+decides_in_time y k e [] = ((λ _. tt), λ _. refl)
+decides_in_time y k e (s ∷ ss) = Decides-and _ _ (decides_leb _ _) (decides_in_time y (suc k) (work_after y k e s) ss)
 
 all_listed : (speeds : List ℕ) (s n : ℕ) → In s speeds → Listed speeds (replicate n s)
 all_listed speeds s zero h = tt
@@ -75,21 +68,21 @@ pub top_sequence : (l : Ledger) (q : List Job) → lawful_speeds l.speeds ≡ tr
 top_sequence l q lw h = record {
   each_slot = length-replicate (slots_left l) (top_of l.speeds);
   listed = all_listed l.speeds (top_of l.speeds) (slots_left l) (top_listed l.speeds lw);
-  in_time = keeps_in_time (pump_for l.speeds q no_charge) l.clock 0 (top_throughout l) h;
+  in_time = (decides_in_time (pump_for l.speeds q no_charge) l.clock 0 (top_throughout l)).0 h;
 }
 
+-- and where any sequence is in time, so is top speed throughout
+top_as_well : (l : Ledger) (q : List Job) → lawful_speeds l.speeds ≡ true → (ss : List ℕ) → Sequence l q ss → InTime (pump_for l.speeds q no_charge) l.clock 0 (top_throughout l)
+top_as_well l q lw ss r =
+    rw r.each_slot at (top_in_time l.speeds (top_of l.speeds) q l.clock 0 0 ss (lawful_gives l.speeds lw).under_top r.listed (omega arith) r.in_time)
+
 pub sequence_top : (l : Ledger) (q : List Job) → lawful_speeds l.speeds ≡ true → (ss : List ℕ) → Sequence l q ss → can_be_in_time l q ≡ true
-sequence_top l q lw ss r =
-    let top = top_of l.speeds in
-    let timely = recharged l.speeds [] no_charge no_charge q l.clock 0 ss r.in_time in
-    let fast = top_in_time l.speeds top q l.clock 0 0 ss (lawful_gives l.speeds lw).under_top r.listed (omega arith) timely in
-    let whole = subst (λ (v : ℕ). Timely q l.clock 0 (replicate v top)) r.each_slot fast in
-    in_time_keeps (pump_for l.speeds q no_charge) l.clock 0 (top_throughout l) (recharged [] l.speeds no_charge no_charge q l.clock 0 (top_throughout l) whole)
+sequence_top l q lw ss r = (decides_in_time (pump_for l.speeds q no_charge) l.clock 0 (top_throughout l)).1 (top_as_well l q lw ss r)
 
 pub top_decides : TopSpeedDecides
 top_decides l q lw = record {
-  some_if_top = λ h. (top_throughout l, top_sequence l q lw (in_time_keeps (pump_for l.speeds q no_charge) l.clock 0 (top_throughout l) h));
-  top_if_some = λ ss r. keeps_in_time (pump_for l.speeds q no_charge) l.clock 0 (top_throughout l) (sequence_top l q lw ss r);
+  some_if_top = λ h. (top_throughout l, top_sequence l q lw ((decides_in_time (pump_for l.speeds q no_charge) l.clock 0 (top_throughout l)).1 h));
+  top_if_some = top_as_well l q lw;
   some_if_told = λ h. (top_throughout l, top_sequence l q lw h);
   none_if_told = λ f ss r. clash (sym f ∙ sequence_top l q lw ss r);
 }

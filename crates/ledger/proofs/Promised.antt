@@ -19,10 +19,10 @@ use Rattle.ledger.specs.Sound.{Fair, Sound}
 use Rattle.ledger.specs.Theorems.{InLine, RunsAlwaysAgree, MeasuredPlan}
 use Rattle.ledger.proofs.Queues.{each_map, each_zip, lined}
 use Rattle.ledger.proofs.Slots.{queue_after}
-use Rattle.ledger.proofs.Times.{Timely, recharged, Sorted, Ends, Within, in_time_ends, ends_in_time}
+use Rattle.ledger.proofs.Times.{Timely, Sorted, Ends, Within, in_time_ends, ends_in_time}
 use Rattle.ledger.proofs.Plans.{sequence_under, plan_best, top_sequence, sequence_top}
-use Rattle.ledger.proofs.Booked.{Passed, passed_none, taken, not_in_time, verdict_in_time, verdict_late}
-use Rattle.ledger.proofs.Kept.{sound_sorted, sound_within, sequence_timely, passed_sorted, entered_sound, ledger_sound}
+use Rattle.ledger.proofs.Booked.{Passed, passed_none, taken, not_in_time, verdict_is}
+use Rattle.ledger.proofs.Kept.{each_left, each_ahead, sound_sorted, sound_within, passed_sorted, entered_sound, ledger_sound}
 use Rattle.ledger.proofs.Answered.{answer_lawful}
 
 -- ## Run on the ledger
@@ -31,52 +31,45 @@ runs_queue : (ss : List ℕ) (l : Ledger) → (runs ss l).queue ≡ queue_after 
 runs_queue [] l = refl
 runs_queue (s ∷ ss) l = runs_queue ss (slot_run s l)
 
-timely_finishes : (l : Ledger) (ss : List ℕ) → Sorted l.clock l.queue → Each (Within l.clock (length ss)) l.queue → Timely l.queue l.clock 0 ss → Each (Finishes l ss) l.queue
+timely_finishes : (l : Ledger) (ss : List ℕ) → Sorted l.clock l.queue → Each (Within l.clock (length ss)) l.queue → Timely l.speeds l.queue l.clock 0 ss → Each (Finishes l ss) l.queue
 timely_finishes l ss w dues h =
-    each_map (Ends l.clock ss l.queue) (Finishes l ss) l.queue
-    (λ j g. subst (Gone j.number) (sym (runs_queue (take (j.due - l.clock) ss) l)) g)
-    (in_time_ends l.clock ss l.queue w dues h)
+    each_map (Ends l.clock ss l.queue) (Finishes l ss) l.queue (λ j g. rw (runs_queue (take (j.due - l.clock) ss) l) g) (in_time_ends l.clock l.speeds ss l.queue w dues h)
 
-finishes_timely : (l : Ledger) (ss : List ℕ) → Sorted l.clock l.queue → Each (Finishes l ss) l.queue → Timely l.queue l.clock 0 ss
+finishes_timely : (l : Ledger) (ss : List ℕ) → Sorted l.clock l.queue → Each (Finishes l ss) l.queue → Timely l.speeds l.queue l.clock 0 ss
 finishes_timely l ss w h =
-    ends_in_time l.clock ss l.queue w
-    (each_map (Finishes l ss) (Ends l.clock ss l.queue) l.queue (λ j g. subst (Gone j.number) (runs_queue (take (j.due - l.clock) ss) l) g) h)
+    ends_in_time l.clock l.speeds ss l.queue w
+    (each_map (Finishes l ss) (Ends l.clock ss l.queue) l.queue (λ j g. rw (runs_queue (take (j.due - l.clock) ss) l) at g) h)
 
 pub runs_agree : RunsAlwaysAgree
 runs_agree l ss i n =
     let c = l.clock in
-    let q = l.queue in
-    let w : Sorted c q = record { line = lined c q i.ordered i.unnested; apart = i.distinct; some_left = i.some_left } in
-    let dues = each_zip (λ j. c < j.due) (λ j. j.due ≤ l.slots) (Within c (length ss)) q (λ j a b. (a, omega arith)) i.due_ahead i.due_within in
-    record {
-      in_time_finishes = λ h. timely_finishes l ss w dues (recharged l.speeds [] no_charge no_charge q c 0 ss h);
-      finishes_in_time = λ h. recharged [] l.speeds no_charge no_charge q c 0 ss (finishes_timely l ss w h);
-    }
+    let w : Sorted c l.queue = record { line = lined c l.queue i.ordered i.unnested; apart = i.distinct; some_left = i.some_left } in
+    let dues = each_zip (λ j. c < j.due) (λ j. j.due ≤ l.slots) (Within c (length ss)) l.queue (λ j a b. omega arith) i.due_ahead i.due_within in
+    record { in_time_finishes = timely_finishes l ss w dues; finishes_in_time = finishes_timely l ss w }
 
 pub in_line : (h : List Call) → InLine (ledger h).clock (ledger h).slots (ledger h).queue
 in_line h =
     let l = ledger h in
     let w = ledger_sound h in
-    let F = Fair l.clock l.slots in
     record {
       ordered = w.ordered;
       unnested = w.unnested;
       distinct = w.distinct;
-      some_left = each_map F (λ j. 1 ≤ j.left) l.queue (λ j f. f.some_left) w.jobs;
-      due_ahead = each_map F (λ j. l.clock < j.due) l.queue (λ j f. f.due_ahead) w.jobs;
-      due_within = each_map F (λ j. j.due ≤ l.slots) l.queue (λ j f. f.due_within) w.jobs;
+      some_left = each_left l.clock l.slots l.queue w.jobs;
+      due_ahead = each_ahead l.clock l.slots l.queue w.jobs;
+      due_within = each_map (Fair l.clock l.slots) (λ j. j.due ≤ l.slots) l.queue (λ j f. f.due_within) w.jobs;
     }
 
 -- ## Rivals are the sequences in time
 
 pub rival_sequence : (l : Ledger) (ss : List ℕ) → Sorted l.clock l.queue → Rival l ss → Sequence l l.queue ss
-rival_sequence l ss w r = record { each_slot = r.each_slot; listed = r.listed; in_time = recharged [] l.speeds no_charge no_charge l.queue l.clock 0 ss (finishes_timely l ss w r.finishes) }
+rival_sequence l ss w r = record { each_slot = r.each_slot; listed = r.listed; in_time = finishes_timely l ss w r.finishes }
 
 sequence_rival : (l : Ledger) (ss : List ℕ) → Sound l → Sequence l l.queue ss → Rival l ss
 sequence_rival l ss w s = record {
   each_slot = s.each_slot;
   listed = s.listed;
-  finishes = timely_finishes l ss (sound_sorted l w) (sound_within l (length ss) s.each_slot w) (sequence_timely l l.queue ss s);
+  finishes = timely_finishes l ss (sound_sorted l w) (sound_within l (length ss) s.each_slot w) s.in_time;
 }
 
 plan_is_best : (l : Ledger) (t : Charges) (o : Order) → Sound l → IsBest l t o (plan_for l t o)
@@ -102,8 +95,8 @@ booking_is_exact l j w =
       taken_rightly = λ e. let b = taken l j e in some b.0 b.1;
       refused_if_none = λ e none.
           let p = passed_none l j e in
-          ⊎_elim (λ t. let s = some p t in absurd (none s.0 s.1)) (verdict_late l j p) (cases_Bool (can_be_in_time l q));
-      taken_if_some = λ e ss r. let p = passed_none l j e in verdict_in_time l j p (can p ss r);
+          ⊎_elim (λ t. let s = some p t in absurd (none s.0 s.1)) (λ f. verdict_is l j p ∙ rw f) (cases_Bool (can_be_in_time l q));
+      taken_if_some = λ e ss r. let p = passed_none l j e in verdict_is l j p ∙ rw (can p ss r);
     }
 
 -- ## The promise
@@ -111,7 +104,7 @@ booking_is_exact l j w =
 pub upheld : (l : Ledger) → Sound l → Upheld l
 upheld l w = record {
   sound = w;
-  nothing_overdue = each_map (Fair l.clock l.slots) (λ j. l.clock < j.due) l.queue (λ j f. f.due_ahead) w.jobs;
+  nothing_overdue = each_ahead l.clock l.slots l.queue w.jobs;
   next_plan_is_best = λ t o. plan_is_best l t o w;
   next_booking_is_exact = λ j. booking_is_exact l j w;
 }

@@ -10,7 +10,7 @@ use Rattle.ledger.specs.Promise.{Rival}
 use Rattle.ledger.specs.Stays.{energies, table, priced_table, job, bare, both}
 use Rattle.ledger.specs.Wrong.{PlansBest, peak_energy, Refuted}
 use Rattle.ledger.proofs.Kept.{sound_sorted, ledger_sound}
-use Rattle.ledger.proofs.Plans.{in_time_keeps}
+use Rattle.ledger.proofs.Plans.{decides_in_time}
 use Rattle.ledger.proofs.Promised.{promised, rival_sequence}
 
 -- ## Every sequence
@@ -26,7 +26,7 @@ of_all (suc n) speeds p = of_each speeds (λ s. of_all n speeds (λ ss. p (s ∷
 
 of_each_lem : (speeds : List ℕ) (p : ℕ → Bool) → of_each speeds p ≡ true → (s : ℕ) → In s speeds → p s ≡ true
 of_each_lem [] p h s i = absurd i
-of_each_lem (t ∷ ts) p h s (inl e) = subst (λ (v : ℕ). p v ≡ true) (sym e) (and_parts (p t) (of_each ts p) h).0
+of_each_lem (t ∷ ts) p h s (inl e) = rw e (and_parts (p t) (of_each ts p) h).0
 of_each_lem (t ∷ ts) p h s (inr i) = of_each_lem ts p (and_parts (p t) (of_each ts p) h).1 s i
 
 of_all_lem : (n : ℕ) (speeds : List ℕ) (p : List ℕ → Bool) → of_all n speeds p ≡ true → (ss : List ℕ) → length ss ≡ n → Listed speeds ss → p ss ≡ true
@@ -58,7 +58,7 @@ tariff_ignored planner f =
     let r = rival_sequence l ss (sound_sorted l (ledger_sound both)) plain.finishes in
     let b : best_of_both ss ≡ true =
     and_from (keeps_time (pump_for l.speeds l.queue no_charge) 0 0 ss) _
-    (in_time_keeps (pump_for l.speeds l.queue no_charge) 0 0 ss r.in_time)
+    ((decides_in_time (pump_for l.speeds l.queue no_charge) 0 0 ss).1 r.in_time)
     (and_from _ _
     (plain.none_below (plan_for l table energies) (the_plan both table energies))
     (dear.none_below (plan_for l priced_table energies) (the_plan both priced_table energies))) in

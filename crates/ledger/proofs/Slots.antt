@@ -1,5 +1,6 @@
 -- A slot pumped, and units taken off: which jobs are gone, what stays of the others, how much is pumped.
 use Rattle.std.proofs.Common.{◌≡◌, ℕ, zero, suc, ◌+◌, ◌-◌, ◌≤◌, min, true, cond, eqb, leb, List, [], ◌∷◌, ◌++◌, length, take, sym, refl, ap, ◌∙◌, subst, inl, inr, ⊎_elim, arith}
+use Rattle.std.proofs.lemmas.Bool.Decides.{nat_tests}
 use Rattle.std.proofs.lemmas.Bool.{cases_Bool, cond-true, cond-false, cond_both, eqb-true, eqb-false}
 use Rattle.ledger.specs.declared.job.Job.{Job}
 use Rattle.ledger.specs.Queue.{Each, Pairs, Gone, Distinct, Apart, Unnested, before, Ordered, arrived, work, lower, share, pumped, units_pumped, finished, keep_open, unfinished, pump_slot}
@@ -20,46 +21,6 @@ lowered e (j ∷ q) = lower (min j.left e) j ∷ lowered (e - min j.left e) q
 abbrev pub take_units : ℕ → List Job → List Job
 take_units e q = unfinished (lowered e q)
 
--- ## Gone
-
-pub gone_keep : (n : ℕ) (j : Job) (q : List Job) → Gone n (keep_open j q) → Gone n q
-gone_keep n j q h =
-    ⊎_elim
-    (λ t. subst (Gone n) (cond-true (eqb j.left 0) q (j ∷ q) t) h)
-    (λ f. (subst (Gone n) (cond-false (eqb j.left 0) q (j ∷ q) f) h).1)
-    (cases_Bool (eqb j.left 0))
-
-keep_gone : (n : ℕ) (j : Job) (q : List Job) → (j.number ≡ n → ⊥) → Gone n q → Gone n (keep_open j q)
-keep_gone n j q d g = cond_both (eqb j.left 0) q (j ∷ q) (Gone n) (λ t. g) (λ f. (d, g))
-
-gone_unfinished : (n : ℕ) (q : List Job) → Gone n q → Gone n (unfinished q)
-gone_unfinished n [] g = tt
-gone_unfinished n (j ∷ q) (d, g) = keep_gone n j (unfinished q) d (gone_unfinished n q g)
-
-gone_pumped : (n k s : ℕ) (q : List Job) → Gone n q → Gone n (pumped k s q)
-gone_pumped n k s [] g = tt
-gone_pumped n k s (j ∷ q) (d, g) = (d, gone_pumped n k (s - share k s j) q g)
-
-gone_lowered : (n e : ℕ) (q : List Job) → Gone n q → Gone n (lowered e q)
-gone_lowered n e [] g = tt
-gone_lowered n e (j ∷ q) (d, g) = (d, gone_lowered n (e - min j.left e) q g)
-
-gone_slot : (n k s : ℕ) (q : List Job) → Gone n q → Gone n (pump_slot k s q)
-gone_slot n k s q g = gone_unfinished n (pumped k s q) (gone_pumped n k s q g)
-
-pub gone_take : (n e : ℕ) (q : List Job) → Gone n q → Gone n (take_units e q)
-gone_take n e q g = gone_unfinished n (lowered e q) (gone_lowered n e q g)
-
-gone_after : (n k : ℕ) (ss : List ℕ) (q : List Job) → Gone n q → Gone n (queue_after k ss q)
-gone_after n k [] q g = g
-gone_after n k (s ∷ ss) q g = gone_after n (suc k) ss (pump_slot k s q) (gone_slot n k s q g)
-
-pub gone_later : (n k a b : ℕ) (ss : List ℕ) (q : List Job) → a ≤ b → Gone n (queue_after k (take a ss) q) → Gone n (queue_after k (take b ss) q)
-gone_later n k zero b ss q h g = gone_after n k (take b ss) q g
-gone_later n k (suc a) zero ss q h g = absurd (omega arith)
-gone_later n k (suc a) (suc b) [] q h g = g
-gone_later n k (suc a) (suc b) (s ∷ ss) q h g = gone_later n (suc k) a b ss (pump_slot k s q) (omega arith) g
-
 -- ## What stays when a slot is pumped
 
 each_pumped : (P Q : Job → Type 0) (k s : ℕ) (q : List Job) → ((u : ℕ) (j : Job) → P j → Q (lower u j)) → Each P q → Each Q (pumped k s q)
@@ -68,16 +29,14 @@ each_pumped P Q k s (j ∷ q) f (p, ps) = (f (share k s j) j p, each_pumped P Q 
 
 each_open : (P : Job → Type 0) (q : List Job) → Each P q → Each P (unfinished q)
 each_open P [] h = tt
-each_open P (j ∷ q) (p, ps) = cond_both (eqb j.left 0) (unfinished q) (j ∷ unfinished q) (Each P) (λ t. each_open P q ps) (λ f. (p, each_open P q ps))
+each_open P (j ∷ q) (p, ps) = grind (arith, each_open P q ps)
 
 pub each_slot : (P : Job → Type 0) (k s : ℕ) (q : List Job) → ((u : ℕ) (j : Job) → P j → P (lower u j)) → Each P q → Each P (pump_slot k s q)
 each_slot P k s q f h = each_open P (pumped k s q) (each_pumped P P k s q f h)
 
 pub open_left : (q : List Job) → Each (λ j. 1 ≤ j.left) (unfinished q)
 open_left [] = tt
-open_left (j ∷ q) =
-    cond_both (eqb j.left 0) (unfinished q) (j ∷ unfinished q) (Each (λ j. 1 ≤ j.left)) (λ t. open_left q)
-    (λ f. let n : j.left ≡ 0 → ⊥ = eqb-false j.left 0 f in (omega arith, open_left q))
+open_left (j ∷ q) = grind (arith, nat_tests, open_left q)
 
 pairs_pumped : (R : Job → Job → Type 0) (k s : ℕ) (q : List Job) → ((u v : ℕ) (j i : Job) → R j i → R (lower u j) (lower v i)) → Pairs R q → Pairs R (pumped k s q)
 pairs_pumped R k s [] f h = tt
@@ -87,7 +46,7 @@ pairs_pumped R k s (j ∷ q) f (p, ps) =
 
 pairs_open : (R : Job → Job → Type 0) (q : List Job) → Pairs R q → Pairs R (unfinished q)
 pairs_open R [] h = tt
-pairs_open R (j ∷ q) (p, ps) = cond_both (eqb j.left 0) (unfinished q) (j ∷ unfinished q) (Pairs R) (λ t. pairs_open R q ps) (λ f. (each_open (R j) q p, pairs_open R q ps))
+pairs_open R (j ∷ q) (p, ps) = grind (arith, each_open (R j) q p, pairs_open R q ps)
 
 pairs_slot : (R : Job → Job → Type 0) (k s : ℕ) (q : List Job) → ((u v : ℕ) (j i : Job) → R j i → R (lower u j) (lower v i)) → Pairs R q → Pairs R (pump_slot k s q)
 pairs_slot R k s q f h = pairs_open R (pumped k s q) (pairs_pumped R k s q f h)
@@ -101,65 +60,43 @@ unnested_slot c k s q = pairs_slot (Apart c) k s q (λ u v j i h. h)
 pub distinct_slot : (k s : ℕ) (q : List Job) → Distinct q → Distinct (pump_slot k s q)
 distinct_slot k s q = pairs_slot (λ j i. i.number ≡ j.number → ⊥) k s q (λ u v j i h. h)
 
-pub length_pumped : (k s : ℕ) (q : List Job) → length (pumped k s q) ≡ length q
-length_pumped k s [] = refl
-length_pumped k s (j ∷ q) = ap suc (length_pumped k (s - share k s j) q)
+-- ## Gone
+
+pub gone_keep : (n : ℕ) (j : Job) (q : List Job) → Gone n (keep_open j q) → Gone n q
+gone_keep n j q = cond_both (eqb j.left 0) q (j ∷ q) (λ r. Gone n r → Gone n q) (λ _ g. g) (λ _ g. g.1)
+
+gone_lowered : (n e : ℕ) (q : List Job) → Gone n q → Gone n (lowered e q)
+gone_lowered n e [] g = tt
+gone_lowered n e (j ∷ q) (d, g) = (d, gone_lowered n (e - min j.left e) q g)
+
+pub gone_take : (n e : ℕ) (q : List Job) → Gone n q → Gone n (take_units e q)
+gone_take n e q g = each_open (λ j. j.number ≡ n → ⊥) (lowered e q) (gone_lowered n e q g)
+
+gone_after : (n k : ℕ) (ss : List ℕ) (q : List Job) → Gone n q → Gone n (queue_after k ss q)
+gone_after n k [] q g = g
+gone_after n k (s ∷ ss) q g = gone_after n (suc k) ss (pump_slot k s q) (each_slot (λ j. j.number ≡ n → ⊥) k s q (λ u j h. h) g)
+
+pub gone_later : (n k a b : ℕ) (ss : List ℕ) (q : List Job) → a ≤ b → Gone n (queue_after k (take a ss) q) → Gone n (queue_after k (take b ss) q)
+gone_later n k zero b ss q h g = gone_after n k (take b ss) q g
+gone_later n k (suc a) zero ss q h g = absurd (omega arith)
+gone_later n k (suc a) (suc b) [] q h g = g
+gone_later n k (suc a) (suc b) (s ∷ ss) q h g = gone_later n (suc k) a b ss (pump_slot k s q) (omega arith) g
 
 -- ## How much a slot pumps and finishes
-
-pub share_left : (k s : ℕ) (j : Job) → share k s j ≤ j.left
-share_left k s j = cond_both (leb j.release k) (min j.left s) 0 (λ v. v ≤ j.left) (λ _. omega arith) (λ _. omega arith)
-
-share_rest : (L s A : ℕ) → min L s + min (s - min L s) A ≡ min s (L + A)
-share_rest L s A = omega arith
 
 -- a slot at speed s pumps the smaller of s and what has arrived
 pub units_arrived : (k s : ℕ) (q : List Job) → units_pumped k s q ≡ min s (arrived q k)
 units_arrived k s [] = omega arith
-units_arrived k s (j ∷ q) =
-    let u = share k s j in
-    let a = cond (leb j.release k) j.left 0 in
-    let rest : units_pumped k (s - u) q ≡ min (s - u) (arrived q k) = units_arrived k (s - u) q in
-    ⊎_elim
-    (λ t.
-    let ue : u ≡ min j.left s = cond-true (leb j.release k) (min j.left s) 0 t in
-    let ae : a ≡ j.left = cond-true (leb j.release k) j.left 0 t in
-    ap (λ v. u + v) rest ∙ ap (λ v. v + min (s - v) (arrived q k)) ue ∙ share_rest j.left s (arrived q k) ∙ ap (λ v. min s (v + arrived q k)) (sym ae))
-    (λ f.
-    let ue : u ≡ 0 = cond-false (leb j.release k) (min j.left s) 0 f in
-    let ae : a ≡ 0 = cond-false (leb j.release k) j.left 0 f in
-    omega arith)
-    (cases_Bool (leb j.release k))
+units_arrived k s (j ∷ q) = grind (arith, units_arrived k (s - share k s j) q)
 
-pub work_falls : (k s : ℕ) (q : List Job) → work q ≡ work (pumped k s q) + units_pumped k s q
-work_falls k s [] = refl
-work_falls k s (j ∷ q) =
-    let r = work_falls k (s - share k s j) q in
-    let le = share_left k s j in
-    omega arith
+-- the open work falls by what the slot pumps, and the count by what it finishes
+pub slot_work : (k s : ℕ) (q : List Job) → work q ≡ work (pump_slot k s q) + min s (arrived q k)
+slot_work k s [] = omega arith
+slot_work k s (j ∷ q) = grind (arith, nat_tests, slot_work k (s - share k s j) q)
 
-pub work_open_same : (q : List Job) → work (unfinished q) ≡ work q
-work_open_same [] = refl
-work_open_same (j ∷ q) =
-    let r = work_open_same q in
-    cond_both (eqb j.left 0) (unfinished q) (j ∷ unfinished q) (λ v. work v ≡ j.left + work q)
-    (λ t. let z : j.left ≡ 0 = eqb-true j.left 0 t in omega arith)
-    (λ f. omega arith)
-
-pub count_falls : (q : List Job) → length q ≡ length (unfinished q) + finished q
-count_falls [] = refl
-count_falls (j ∷ q) =
-    let r = count_falls q in
-    ⊎_elim
-    (λ t.
-    let a = ap length (cond-true (eqb j.left 0) (unfinished q) (j ∷ unfinished q) t) in
-    let b = cond-true {A = ℕ} (eqb j.left 0) 1 0 t in
-    omega arith)
-    (λ f.
-    let a = ap length (cond-false (eqb j.left 0) (unfinished q) (j ∷ unfinished q) f) in
-    let b = cond-false {A = ℕ} (eqb j.left 0) 1 0 f in
-    omega arith)
-    (cases_Bool (eqb j.left 0))
+pub slot_count : (k s : ℕ) (q : List Job) → length q ≡ length (pump_slot k s q) + finished (pumped k s q)
+slot_count k s [] = refl
+slot_count k s (j ∷ q) = grind (arith, slot_count k (s - share k s j) q)
 
 -- ## First in the queue, first served
 
@@ -171,23 +108,18 @@ still_open k s (j ∷ q) =
     let r = still_open k (s - u) q in
     let i = lower u j in
     cond_both (eqb i.left 0) rest (i ∷ rest) (StillOpen (j ∷ q)) (λ _. inl r)
-    (λ f. let some : 1 ≤ i.left = omega (arith, eqb-false i.left 0 f) in inr (i.left, rest, some, omega arith, refl, r))
+    (λ f. inr (i.left, rest, omega (arith, eqb-false i.left 0 f), omega arith, refl, r))
 
 pumped_append : (k s : ℕ) (front back : List Job) → pumped k s (front ++ back) ≡ pumped k s front ++ pumped k (s - units_pumped k s front) back
-pumped_append k s [] back = let z : s ≡ s - 0 = omega arith in ap (λ (v : ℕ). pumped k v back) z
+pumped_append k s [] back = let z : s ≡ s - 0 = omega arith in cc
 pumped_append k s (j ∷ front) back =
     let u = share k s j in
     let e : s - u - units_pumped k (s - u) front ≡ s - (u + units_pumped k (s - u) front) = omega arith in
-    ap (λ v. lower u j ∷ v) (pumped_append k (s - u) front back ∙ ap (λ (v : ℕ). pumped k (s - u) front ++ pumped k v back) e)
+    cc (pumped_append k (s - u) front back)
 
 unfinished_append : (p q : List Job) → unfinished (p ++ q) ≡ unfinished p ++ unfinished q
 unfinished_append [] q = refl
-unfinished_append (j ∷ p) q =
-    ap (keep_open j) (unfinished_append p q)
-    ∙ ⊎_elim
-    (λ t. cond-true (eqb j.left 0) (unfinished p ++ unfinished q) (j ∷ unfinished p ++ unfinished q) t ∙ ap (λ v. v ++ unfinished q) (sym (cond-true (eqb j.left 0) (unfinished p) (j ∷ unfinished p) t)))
-    (λ f. cond-false (eqb j.left 0) (unfinished p ++ unfinished q) (j ∷ unfinished p ++ unfinished q) f ∙ ap (λ v. v ++ unfinished q) (sym (cond-false (eqb j.left 0) (unfinished p) (j ∷ unfinished p) f)))
-    (cases_Bool (eqb j.left 0))
+unfinished_append (j ∷ p) q = grind (arith, unfinished_append p q)
 
 pub first_served : (k s : ℕ) (q front back : List Job) → q ≡ front ++ back → FirstServed k s front back (pump_slot k s q)
 first_served k s q front back e = record {
@@ -196,5 +128,5 @@ first_served k s q front back e = record {
   is = ap (pump_slot k s) e ∙ ap unfinished (pumped_append k s front back) ∙ unfinished_append (pumped k s front) (pumped k (s - units_pumped k s front) back);
   front_open = still_open k s front;
   back_open = still_open k (s - units_pumped k s front) back;
-  falls = work_falls k s front ∙ ap (λ v. v + units_pumped k s front) (sym (work_open_same (pumped k s front))) ∙ ap (λ v. work (pump_slot k s front) + v) (units_arrived k s front);
+  falls = slot_work k s front;
 }
