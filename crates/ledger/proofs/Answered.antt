@@ -1,18 +1,17 @@
 -- The laws of the answers.
-use Rattle.std.proofs.Common.{◌≡◌, ℕ, ◌+◌, ◌<◌, min, Bool, true, false, not, ◌||◌, eqb, List, [], ◌∷◌, ◌++◌, length, None, Option, sym, refl, ap, ◌∙◌, subst, ⊎_elim, arith}
+use Rattle.std.proofs.Common.{◌≡◌, ℕ, ◌+◌, ◌<◌, true, false, eqb, List, [], ◌∷◌, ◌++◌, None, refl, ap, ⊎_elim, arith}
 use borrow.Author.Tests.{clash}
-use Rattle.std.proofs.lemmas.Bool.{cond_both, cases_Bool, cond-true, cond-false, eqb-true, not-false}
+use Rattle.std.proofs.lemmas.Bool.{cond_both, cases_Bool, eqb-true}
 use Rattle.ledger.specs.declared.job.Job.{Job}
-use Rattle.ledger.specs.declared.refusal.Refusal.{Refusal}
 use Rattle.ledger.specs.declared.refusal.Refusal.TheVariants.{NoSuchJob}
-use Rattle.ledger.specs.Queue.{before, enter, Ordered, strike, work, arrived, pumped, units_pumped, finished, pump_slot}
-use Rattle.ledger.specs.Ledger.{Ledger, Standing, no_plan, plan, Call, opening, booking, withdrawing, planning, running, refusal, is_open, left_of, is_planned, with_queue, run_by, accepted, unless_refused, after}
-use Rattle.ledger.specs.Answers.{Answer, refused, booked, withdrew, ran, speed_now, answered, answer}
-use Rattle.ledger.specs.AnswerLaws.{OnlyQueue, Entered, RunIsLawful, AcceptanceIsLawful, AnswerIsLawful}
+use Rattle.ledger.specs.Queue.{before, enter, Ordered, strike, work, pumped, units_pumped, finished}
+use Rattle.ledger.specs.Ledger.{Ledger, Standing, no_plan, plan, Call, opening, booking, withdrawing, planning, running, refusal, is_open, left_of, is_planned, run_by}
+use Rattle.ledger.specs.Answers.{booked, withdrew, ran, speed_now}
+use Rattle.ledger.specs.AnswerLaws.{Entered, RunIsLawful, AcceptanceIsLawful, AnswerIsLawful}
 use Rattle.ledger.specs.Sound.{PlanFits, Sound}
 use Rattle.ledger.proofs.Queues.{each_map, goes_before, length_enter}
 use Rattle.ledger.proofs.Slots.{units_arrived, slot_work, slot_count}
-use Rattle.ledger.proofs.Booked.{rule_none}
+use Rattle.ledger.proofs.Booked.{rule_off}
 use Rattle.ledger.proofs.Kept.{may_run}
 
 -- ## Entering
@@ -29,7 +28,7 @@ entering j (i ∷ q) (o, os) =
       was = refl;
       is = refl;
       ahead = tt;
-      behind = (f, each_map (λ x. before i x ≡ true) (λ x. before x j ≡ false) q (λ x b. (goes_before i j x f b).2) o);
+      behind = (f, each_map (λ x. before i x ≡ true) (λ x. before x j ≡ false) q (λ x b. (goes_before i j x f b).1) o);
     })
 
 -- ## Striking out
@@ -97,7 +96,7 @@ accepted_lawful l (booking j) w h = record {
   only_queue = rw h (assumption);
 }
 accepted_lawful l (withdrawing n) w h =
-    let s = striking n l.queue (not-false (is_open n l.queue) (rule_none NoSuchJob (not (is_open n l.queue)) None h).0) in
+    let s = striking n l.queue (rule_off NoSuchJob (is_open n l.queue) h) in
     record {
       front = s.front;
       job = s.job;

@@ -1,18 +1,21 @@
 -- What the rules of a booking let pass.
-use Rattle.std.proofs.Common.{◌≡◌, ℕ, ◌+◌, ◌<◌, ◌≤◌, Bool, true, false, not, ◌||◌, eqb, ltb, leb, List, [], ◌∷◌, length, Some, None, Option, sym, refl, inl, inr, ◌⊎◌, ap, ◌∙◌, arith}
+use Rattle.std.proofs.Common.{◌≡◌, ℕ, ◌+◌, ◌<◌, ◌≤◌, Bool, true, false, not, ◌||◌, eqb, ltb, leb, List, [], ◌∷◌, length, Some, None, Option, sym, refl, inl, inr, ◌⊎◌, arith}
 use Rattle.std.proofs.lemmas.Bool.Decides.{nat_tests}
-use Rattle.std.proofs.lemmas.Bool.{leb-false, ltb-false, eqb-false, or_parts, not-false, not-true}
+use Rattle.std.proofs.lemmas.Bool.{leb-false, ltb-false, eqb-false, or_parts}
 use Rattle.ledger.specs.declared.job.Job.{Job}
 use Rattle.ledger.specs.declared.refusal.Refusal.{Refusal}
 use Rattle.ledger.specs.declared.refusal.Refusal.TheVariants.{JobNumber, JobSlots, JobWork, NumberOpen, NoRoom, Nested, NotInTime}
-use Rattle.ledger.specs.Refusals.{refusal_number}
 use Rattle.ledger.specs.Limits.{most_jobs, most_work, largest_number}
-use Rattle.ledger.specs.Queue.{Each, inside, Apart, enter, work}
+use Rattle.ledger.specs.Queue.{Each, Apart, enter, work}
 use Rattle.ledger.specs.Ledger.{Ledger, booking, can_be_in_time, is_open, nested, rule, booking_rules, refusal}
 use Rattle.ledger.specs.Sound.{Fair}
 
-pub rule_none : (r : Refusal) (b : Bool) (rest : Option Refusal) → rule r b rest ≡ None → (b ≡ false) × (rest ≡ None)
-rule_none r b rest h = grind arith
+-- a last rule that refuses unless b
+pub rule_off : (r : Refusal) (b : Bool) → rule r (not b) None ≡ None → b ≡ true
+rule_off r b h = grind arith
+
+rule_on : (r : Refusal) (b : Bool) → rule r (not b) None ≡ Some r → b ≡ false
+rule_on r b h = grind arith
 
 -- a booking that the rules before the last let pass
 pub record Passed (l : Ledger) (j : Job) : Type 0 where
@@ -31,30 +34,18 @@ passes l j rest m last h = assumption (none_before _ _ _ _ _ _ h)
         (a ≡ false) × (b ≡ false) × (c ≡ false) × (d ≡ false) × (e ≡ false) × (f ≡ false) × (rest ≡ m)
     none_before a b c d e f h = grind arith
 
--- and what follows where they pass
-passed_rest : (l : Ledger) (j : Job) (rest : Option Refusal) → Passed l j → booking_rules l j rest ≡ rest
-passed_rest l j rest p = rw (p.number, p.slots, p.left, p.closed, p.room, p.apart)
-
 pub passed_none : (l : Ledger) (j : Job) → booking_rules l j None ≡ None → Passed l j
 passed_none l j h = (passes l j None None (inl refl) h).0
 
 pub taken : (l : Ledger) (j : Job) → refusal l (booking j) ≡ None → Passed l j × (can_be_in_time l (enter j l.queue) ≡ true)
-taken l j h =
-    let b = can_be_in_time l (enter j l.queue) in
-    let a = passes l j (rule NotInTime (not b) None) None (inl refl) h in
-    (a.0, not-false b (rule_none NotInTime (not b) None a.1).0)
+taken l j h = let a = passes l j _ None (inl refl) h in (a.0, rule_off NotInTime _ a.1)
 
 pub not_in_time : (l : Ledger) (j : Job) → refusal l (booking j) ≡ Some NotInTime → Passed l j × (can_be_in_time l (enter j l.queue) ≡ false)
-not_in_time l j h =
-    let a = passes l j (rule NotInTime (not (can_be_in_time l (enter j l.queue))) None) (Some NotInTime) (inr refl) h in
-    (a.0, late (can_be_in_time l (enter j l.queue)) a.1)
-  where
-    late : (b : Bool) → rule NotInTime (not b) None ≡ Some NotInTime → b ≡ false
-    late b h = grind arith
+not_in_time l j h = let a = passes l j _ (Some NotInTime) (inr refl) h in (a.0, rule_on NotInTime _ a.1)
 
--- the verdict is then that of the last rule
+-- where they pass, the verdict is that of the last rule
 pub verdict_is : (l : Ledger) (j : Job) → Passed l j → refusal l (booking j) ≡ rule NotInTime (not (can_be_in_time l (enter j l.queue))) None
-verdict_is l j p = passed_rest l j (rule NotInTime (not (can_be_in_time l (enter j l.queue))) None) p
+verdict_is l j p = rw (p.number, p.slots, p.left, p.closed, p.room, p.apart)
 
 -- ## What has passed
 

@@ -1,22 +1,20 @@
 -- Every call keeps a ledger sound.
-use Rattle.std.proofs.Common.{◌≡◌, ℕ, suc, ◌+◌, ◌-◌, ◌<◌, ◌≤◌, Bool, true, not, ◌||◌, eqb, ltb, leb, List, [], ◌∷◌, length, Some, None, Option, sym, refl, arith}
-use borrow.Author.Tests.{clash}
+use Rattle.std.proofs.Common.{◌≡◌, ℕ, suc, ◌-◌, ◌<◌, ◌≤◌, Bool, true, not, ◌||◌, eqb, ltb, leb, List, [], ◌∷◌, length, Some, None, Option, refl, arith}
 use Rattle.std.proofs.lemmas.Bool.Decides.{nat_tests}
-use Rattle.std.proofs.lemmas.Bool.{leb-false, ltb-false, eqb-false, or_parts, not-false}
 use Rattle.measure.specs.Orders.{Order}
 use Rattle.recursion.specs.Speeds.{lawful_speeds}
 use Rattle.ledger.specs.declared.job.Job.{Job}
 use Rattle.ledger.specs.declared.refusal.Refusal.{Refusal}
 use Rattle.ledger.specs.declared.refusal.Refusal.TheVariants.{SlotCount, SpeedList, StayOver, NotPlanned}
-use Rattle.ledger.specs.Limits.{most_slots, most_jobs, most_work, largest_number}
-use Rattle.ledger.specs.Queue.{Each, Distinct, Apart, Unnested, before, enter, strike, work, lower, pumped, pump_slot}
+use Rattle.ledger.specs.Limits.{most_slots, most_jobs, most_work}
+use Rattle.ledger.specs.Queue.{Each, Distinct, Apart, Unnested, before, enter, strike, work, pumped, pump_slot}
 use Rattle.ledger.specs.Ledger.{Ledger, Standing, no_plan, plan, Charges, Call, opening, booking, withdrawing, planning, running, slots_left, pump_for, no_charge, Sequence, top_throughout, can_be_in_time, plan_for, is_planned, rule, refusal, with_plan, with_queue, entered, slot_run, run_by, accepted, unless_refused, after, new, ledger}
 use Rattle.ledger.specs.Sound.{Fair, PlanFits, Sound}
 use Rattle.ledger.proofs.Queues.{each_map, each_zip, lined, unnested_later, each_enter, pairs_enter, ordered_enter, length_enter, work_enter, each_strike, pairs_strike, length_strike, work_strike}
 use Rattle.ledger.proofs.Slots.{each_slot, open_left, ordered_slot, unnested_slot, distinct_slot, slot_work, slot_count}
 use Rattle.ledger.proofs.Times.{Sorted, Within, in_time_ends, ends_in_time, struck_in_time, slot_ends, slot_dues, slot_sorted}
 use Rattle.ledger.proofs.Plans.{plan_best, top_sequence, decides_in_time, idle_in_time}
-use Rattle.ledger.proofs.Booked.{rule_none, Passed, taken, closed_apart, unnested_apart, passed_fair, passed_room}
+use Rattle.ledger.proofs.Booked.{Passed, taken, closed_apart, unnested_apart, passed_fair, passed_room}
 
 -- ## A sound ledger's queue
 
@@ -103,21 +101,13 @@ planned_sound l t o mark w = assumption (plan_best l t o w.possible.0 w.possible
 
 -- ## Running
 
--- a job but for its left, whatever the clock
-record Mild (n : ℕ) (j : Job) : Type 0 where
-  numbered : 1 ≤ j.number
-  number_within : j.number ≤ largest_number
-  left_within : j.left ≤ most_work
-  released_before_due : j.release < j.due
-  due_within : j.due ≤ n
-
 slot_fair : (c n s : ℕ) (q : List Job) → Each (Fair c n) q → Each (λ j. suc c < j.due) (pump_slot c s q) → Each (Fair (suc c) n) (pump_slot c s q)
 slot_fair c n s q fs ds =
+    let G : Job → Type 0 = λ j. suc c < j.due → Fair (suc c) n j in
+    let F : Job → Type 0 = λ j. 1 ≤ j.left → G j in
     let r = pump_slot c s q in
-    let P : Job → Type 0 = λ j. (suc c < j.due) × (1 ≤ j.left) in
-    each_zip (Mild n) P (Fair (suc c) n) r (λ j m p. omega arith)
-    (each_slot (Mild n) c s q (λ u j m. omega arith) (each_map (Fair c n) (Mild n) q (λ j f. omega arith) fs))
-    (each_zip (λ j. suc c < j.due) (λ j. 1 ≤ j.left) P r (λ j a b. (a, b)) ds (open_left (pumped c s q)))
+    let gs = each_slot F c s q (λ u j f some due. let g = f (omega arith) due in omega arith) (each_map (Fair c n) F q (λ j f some due. omega arith) fs) in
+    each_zip G (λ j. suc c < j.due) (Fair (suc c) n) r (λ j g due. g due) (each_zip F (λ j. 1 ≤ j.left) G r (λ j g some. g some) gs (open_left (pumped c s q))) ds
 
 run_sound : (l : Ledger) (p : Standing) → Sound l → l.clock < l.slots → PlanFits l p → is_planned p ≡ true → Sound (run_by p l)
 run_sound l no_plan w lt f h = cc

@@ -1,5 +1,5 @@
 -- Sequences of listed speeds: the planned one is best, and top speed decides whether there is any.
-use Rattle.std.proofs.Common.{◌≡◌, ℕ, zero, suc, ◌-◌, ◌≤◌, Bool, true, Decides, leb, List, [], ◌∷◌, length, replicate, sym, refl, ap, ◌∙◌, subst, arith}
+use Rattle.std.proofs.Common.{◌≡◌, ℕ, zero, suc, ◌-◌, ◌≤◌, Bool, true, Decides, leb, List, [], ◌∷◌, length, replicate, sym, refl, ap, ◌∙◌, arith}
 use borrow.Author.Tests.{clash}
 use lib.ListN.{length-replicate}
 use Rattle.std.proofs.lemmas.Bool.{leb-true, le-leb}
@@ -16,7 +16,7 @@ use Rattle.ledger.specs.declared.job.Job.{Job}
 use Rattle.ledger.specs.Ledger.{Ledger, Charges, slots_left, pump_for, no_charge, Sequence, keeps_time, top_of, top_throughout, can_be_in_time, plan_for, charges_of}
 use Rattle.ledger.specs.Theorems.{TopSpeedDecides}
 use Rattle.ledger.proofs.Pump.{step}
-use Rattle.ledger.proofs.Times.{Timely, recharged, top_in_time}
+use Rattle.ledger.proofs.Times.{recharged, top_in_time}
 
 -- ## The planned sequence
 

@@ -12,7 +12,7 @@ use Rattle.recursion.proofs.Optimum.{recursion}
 use Rattle.recursion.proofs.Rising.{lawful_gives}
 use Rattle.recursion.proofs.Sequences.{pump_optimal}
 use Rattle.ledger.specs.declared.job.Job.{Job}
-use Rattle.ledger.specs.Queue.{Each, Gone, enter}
+use Rattle.ledger.specs.Queue.{Each, enter}
 use Rattle.ledger.specs.Ledger.{Ledger, Charges, Call, booking, slots_left, pump_for, no_charge, Sequence, top_throughout, can_be_in_time, plan_for, refusal, entered, slot_run, ledger}
 use Rattle.ledger.specs.Promise.{runs, Finishes, Rival, IsBest, ExactVerdict, Upheld, Promise}
 use Rattle.ledger.specs.Sound.{Fair, Sound}

@@ -1,7 +1,7 @@
 -- Pumping in queue order is taking units off the front of the queue.
-use Rattle.std.proofs.Common.{◌≡◌, ℕ, suc, ◌+◌, ◌-◌, ◌<◌, ◌≤◌, min, cond, eqb, leb, List, [], ◌∷◌, sym, refl, ap, ◌∙◌, subst, ap₂, ⊎_elim, arith}
+use Rattle.std.proofs.Common.{◌≡◌, ℕ, suc, ◌+◌, ◌-◌, ◌<◌, ◌≤◌, min, cond, eqb, leb, List, [], ◌∷◌, sym, refl, ap, ◌∙◌, subst, ⊎_elim, arith}
 use Rattle.std.proofs.lemmas.Bool.Decides.{nat_tests}
-use Rattle.std.proofs.lemmas.Bool.{cases_lt, cond_both, cases_Bool, cond-true, cond-false, leb-true, leb-false, eqb-true, eq-eqb, ne_eqb}
+use Rattle.std.proofs.lemmas.Bool.{cases_lt, cond_both, eqb-true}
 use Rattle.ledger.specs.declared.job.Job.{Job}
 use Rattle.ledger.specs.Queue.{Each, Gone, Distinct, arrived, owed, lower, share, pumped, keep_open, unfinished, pump_slot}
 use Rattle.ledger.proofs.Queues.{each_map, Behind, Lined, none_arrived, none_owed, arrived_more}

@@ -1,9 +1,9 @@
 -- Queues: what holds of each job, the order, what has arrived and what is owed, a job entered or struck out.
-use Rattle.std.proofs.Common.{◌≡◌, ℕ, suc, ◌+◌, ◌<◌, ◌≤◌, true, false, cond, ◌&&◌, eqb, ltb, leb, ◌⊎◌, List, [], ◌∷◌, length, sym, refl, ap, subst, inl, inr, ⊎_elim, arith}
+use Rattle.std.proofs.Common.{◌≡◌, ℕ, suc, ◌+◌, ◌<◌, ◌≤◌, true, false, ◌⊎◌, List, [], ◌∷◌, length, sym, refl, subst, inl, inr, arith}
 use Rattle.std.proofs.lemmas.Bool.Decides.{nat_tests}
-use Rattle.std.proofs.lemmas.Bool.{cases_Bool, cond-true, cond-false, cond_both, leb-true, leb-false, ltb-true, ltb-false, lt-ltb, le-ltb, cases_lt, eqb-true, eqb-false, le-leb, lt-leb, eq-eqb, and_parts, and_cases, or_cases, or_parts, and_from, and_left, and_right, or_left, or_right}
+use Rattle.std.proofs.lemmas.Bool.{cond_both}
 use Rattle.ledger.specs.declared.job.Job.{Job}
-use Rattle.ledger.specs.Queue.{Each, Pairs, counted, inside, Apart, Unnested, before, Ordered, enter, strike, arrived, owed, work}
+use Rattle.ledger.specs.Queue.{Each, Pairs, counted, Apart, Unnested, before, Ordered, enter, strike, arrived, owed, work}
 
 -- ## Each
 
@@ -84,8 +84,8 @@ pairs_enter R j (i ∷ q) (h, hs) (p, ps) =
     (λ t. (each_enter (R i) j q h.0 p, pairs_enter R j q hs ps))
     (λ f. ((h.1, each_map (λ i. R i j × R j i) (R j) q (λ i r. r.1) hs), (p, ps)))
 
--- j goes before a job that does not go before it, and so before each that goes behind that one
-pub goes_before : (i j x : Job) → before i j ≡ false → before i x ≡ true → (before j i ≡ true) × (before j x ≡ true) × (before x j ≡ false)
+-- j goes before a job i that does not go before it, and before each that i goes before
+pub goes_before : (i j x : Job) → before i j ≡ false → before i x ≡ true → (before j x ≡ true) × (before x j ≡ false)
 goes_before i j x f b = grind (arith, nat_tests)
 
 before_turned : (i j : Job) → before i j ≡ false → before j i ≡ true
@@ -96,7 +96,7 @@ ordered_enter j [] p = (tt, tt)
 ordered_enter j (i ∷ q) (p, ps) =
     cond_both (before i j) (i ∷ enter j q) (j ∷ i ∷ q) Ordered
     (λ t. (each_enter (λ x. before i x ≡ true) j q t p, ordered_enter j q ps))
-    (λ f. ((before_turned i j f, each_map (λ x. before i x ≡ true) (λ x. before j x ≡ true) q (λ x b. (goes_before i j x f b).1) p), (p, ps)))
+    (λ f. ((before_turned i j f, each_map (λ x. before i x ≡ true) (λ x. before j x ≡ true) q (λ x b. (goes_before i j x f b).0) p), (p, ps)))
 
 pub length_enter : (j : Job) (q : List Job) → length (enter j q) ≡ suc (length q)
 length_enter j [] = refl

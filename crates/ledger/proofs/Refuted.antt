@@ -1,12 +1,12 @@
 -- Wrong planners and verdicts fail the promise on a stay of the tables, and a wrong measure its third law.
-use Rattle.std.proofs.Common.{◌≡◌, ℕ, zero, suc, Bool, true, not, ◌&&◌, List, [], ◌∷◌, length, sym, refl, ◌∙◌, subst, inl, inr, arith}
+use Rattle.std.proofs.Common.{◌≡◌, ℕ, zero, suc, Bool, true, not, ◌&&◌, List, [], ◌∷◌, length, sym, refl, ◌∙◌, inl, inr, arith}
 use borrow.Author.Tests.{clash}
 use Rattle.std.proofs.lemmas.Bool.{and_parts, and_from, not-true}
 use Rattle.measure.specs.Orders.{Order}
 use Rattle.recursion.specs.Staged.{In}
 use Rattle.recursion.specs.Pumps.{Listed}
 use Rattle.ledger.specs.Ledger.{Ledger, Charges, Call, running, pump_for, no_charge, keeps_time, plan_for, charges_of, ledger}
-use Rattle.ledger.specs.Promise.{Rival}
+use Rattle.ledger.specs.Promise.{Rival, IsBest}
 use Rattle.ledger.specs.Stays.{energies, table, priced_table, job, bare, both}
 use Rattle.ledger.specs.Wrong.{PlansBest, peak_energy, Refuted}
 use Rattle.ledger.proofs.Kept.{sound_sorted, ledger_sound}
@@ -42,6 +42,10 @@ of_all_lem (suc n) speeds p h (s ∷ ss) e (l, ls) =
 the_plan : (h : List Call) (t : Charges) (o : Order) → Rival (ledger h) (plan_for (ledger h) t o)
 the_plan h t o = ((promised h running).at_the_call.next_plan_is_best t o).finishes
 
+-- the best charges are not above those of the plan
+not_above_plan : (h : List Call) (t : Charges) (o : Order) (ss : List ℕ) → IsBest (ledger h) t o ss → o.not_above (charges_of (ledger h) t ss) (charges_of (ledger h) t (plan_for (ledger h) t o)) ≡ true
+not_above_plan h t o ss b = b.none_below (plan_for (ledger h) t o) (the_plan h t o)
+
 -- in time, and under both tariffs not above the plan
 abbrev best_of_both : List ℕ → Bool
 best_of_both ss =
@@ -54,21 +58,18 @@ tariff_ignored planner f =
     let l = ledger both in
     let ss = planner l energies in
     let plain = f both table energies in
-    let dear = f both priced_table energies in
     let r = rival_sequence l ss (sound_sorted l (ledger_sound both)) plain.finishes in
     let b : best_of_both ss ≡ true =
     and_from (keeps_time (pump_for l.speeds l.queue no_charge) 0 0 ss) _
     ((decides_in_time (pump_for l.speeds l.queue no_charge) 0 0 ss).1 r.in_time)
-    (and_from _ _
-    (plain.none_below (plan_for l table energies) (the_plan both table energies))
-    (dear.none_below (plan_for l priced_table energies) (the_plan both priced_table energies))) in
+    (and_from _ _ (not_above_plan both table energies ss plain) (not_above_plan both priced_table energies ss (f both priced_table energies))) in
     clash (sym (not-true (best_of_both ss) (of_all_lem 4 (0 ∷ 1 ∷ 3 ∷ []) (λ us. not (best_of_both us)) refl ss r.each_slot r.listed)) ∙ b)
 
 pub refuted : Refuted
 refuted = record {
   planner = λ h t o. (promised h running).at_the_call.next_plan_is_best t o;
-  top_throughout_refuted = λ f. clash ((f both table energies).none_below (plan_for (ledger both) table energies) (the_plan both table energies));
-  top_after_first_refuted = λ f. clash ((f both table energies).none_below (plan_for (ledger both) table energies) (the_plan both table energies));
+  top_throughout_refuted = λ f. clash (not_above_plan both table energies _ (f both table energies));
+  top_after_first_refuted = λ f. clash (not_above_plan both table energies _ (f both table energies));
   tariff_ignored = tariff_ignored;
   verdict = λ h j. (promised h running).at_the_call.next_booking_is_exact j;
   always_late = λ f.

@@ -1,11 +1,11 @@
 -- What each front of a queue loses says what a slot makes of it.
-use Rattle.std.proofs.Common.{◌≡◌, ℕ, ◌+◌, ◌-◌, min, cond, eqb, leb, List, [], ◌∷◌, ◌++◌, get_or, sym, refl, ap, ◌∙◌, subst, inl, inr, ⊎_elim, arith}
-use Rattle.std.proofs.lemmas.Bool.{cond-true, cond-false, cond_both, eq-eqb, ne_eqb}
+use Rattle.std.proofs.Common.{◌≡◌, ℕ, ◌+◌, ◌-◌, min, List, [], ◌∷◌, ◌++◌, get_or, sym, refl, ap, ◌∙◌, inl, inr, ⊎_elim, arith}
+use Rattle.std.proofs.lemmas.Bool.{eq-eqb, ne_eqb}
 use Rattle.ledger.specs.declared.job.Job.{Job}
 use Rattle.ledger.specs.Stays.{job}
 use Rattle.ledger.specs.Queue.{Gone, arrived, work, lower, share, keep_open, pump_slot}
 use Rattle.ledger.specs.Served.{StillOpen, FirstServed, FirstServedPins, RunsServeFirst, ServesFirst, pumped_from_back}
-use Rattle.ledger.proofs.Slots.{first_served, units_arrived}
+use Rattle.ledger.proofs.Slots.{first_served}
 
 -- ## Gone
 

@@ -1,15 +1,14 @@
 -- The test of a ledger tells exactly whether it is sound.
-use Rattle.std.proofs.Common.{◌≡◌, ℕ, ◌<◌, ◌≤◌, Bool, true, false, not, ◌&&◌, eqb, leb, List, [], ◌∷◌, length, Decides, refl, arith}
+use Rattle.std.proofs.Common.{◌≡◌, ℕ, Bool, true, not, ◌&&◌, eqb, List, [], ◌∷◌, length, Decides, refl, arith}
 use borrow.Author.Tests.{clash}
-use Rattle.std.proofs.lemmas.Bool.{leb-true, le-leb, not-true, not_from_false}
-use Rattle.std.proofs.lemmas.Bool.Decides.{Decides-and, Decides-or, Decides-not, Decides-eqb, Decides-ltb, Decides-like, nat_tests}
+use Rattle.std.proofs.lemmas.Bool.Decides.{Decides-and, Decides-or, Decides-not, Decides-eqb, Decides-like, nat_tests}
 use Rattle.recursion.specs.Staged.{In}
-use Rattle.recursion.specs.Pumps.{Pump, InTime, Listed}
+use Rattle.recursion.specs.Pumps.{Listed}
 use Rattle.recursion.specs.Speeds.{lawful_speeds}
 use Rattle.ledger.specs.declared.job.Job.{Job}
-use Rattle.ledger.specs.Limits.{most_slots, most_jobs, most_work, largest_number}
-use Rattle.ledger.specs.Queue.{Each, Pairs, Distinct, Ordered, Apart, Unnested, inside, before, work}
-use Rattle.ledger.specs.Ledger.{Ledger, Standing, no_plan, plan, slots_left, pump_for, no_charge, keeps_time, Sequence, top_throughout, can_be_in_time}
+use Rattle.ledger.specs.Limits.{most_slots, most_jobs, most_work}
+use Rattle.ledger.specs.Queue.{Each, Pairs, Apart, inside, before, work}
+use Rattle.ledger.specs.Ledger.{Ledger, Standing, no_plan, plan, slots_left, pump_for, no_charge, Sequence, top_throughout, can_be_in_time}
 use Rattle.ledger.specs.Sound.{Fair, PlanFits}
 use Rattle.ledger.specs.SoundTest.{each, pairs, is_in, listed, fair, plan_fits, sound, SoundIsTested}
 use Rattle.ledger.proofs.Plans.{decides_leb, decides_in_time, top_sequence, sequence_top}

@@ -1,13 +1,13 @@
 -- In time by what has arrived and what is owed is in time by the jobs.
-use Rattle.std.proofs.Common.{◌≡◌, ℕ, zero, suc, ◌+◌, ◌-◌, ◌<◌, ◌≤◌, min, Bool, true, false, cond, eqb, leb, ◌⊎◌, List, [], ◌∷◌, length, take, replicate, sym, refl, ap, ◌∙◌, subst, inl, inr, ⊎_elim, arith}
+use Rattle.std.proofs.Common.{◌≡◌, ℕ, zero, suc, ◌+◌, ◌-◌, ◌<◌, ◌≤◌, min, eqb, ◌⊎◌, List, [], ◌∷◌, length, take, replicate, refl, inl, ⊎_elim, arith}
 use Rattle.std.proofs.lemmas.Bool.Decides.{nat_tests}
-use Rattle.std.proofs.lemmas.Bool.{cases_Bool, cond-true, cond-false, cond_both, leb-false, cases_lt}
+use Rattle.std.proofs.lemmas.Bool.{cond_both, cases_lt}
 use Rattle.recursion.specs.Staged.{In}
 use Rattle.recursion.specs.Pumps.{InTime, Listed}
 use Rattle.ledger.specs.declared.job.Job.{Job}
 use Rattle.ledger.specs.Queue.{Each, Gone, Distinct, Ordered, Unnested, arrived, owed, strike, pumped, pump_slot}
 use Rattle.ledger.specs.Ledger.{pump_for, no_charge}
-use Rattle.ledger.proofs.Queues.{each_map, each_zip, Mem, each_at, each_all, Lined, lined, none_arrived, none_owed, unnested_later}
+use Rattle.ledger.proofs.Queues.{each_map, each_zip, each_at, each_all, Lined, lined, none_arrived, none_owed, unnested_later}
 use Rattle.ledger.proofs.Slots.{queue_after, take_units, gone_later, each_slot, open_left, ordered_slot, unnested_slot, distinct_slot}
 use Rattle.ledger.proofs.Pump.{step, done, after_take, take_none, covered, uncovered}
 
@@ -117,11 +117,10 @@ struck_in_time speeds k n ss q l h = fewer_in_time speeds k k 0 0 ss q (strike n
 
 pub slot_ends : (k s : ℕ) (ss : List ℕ) (q : List Job) → Each (λ j. k < j.due) q → Each (Ends k (s ∷ ss) q) q → Each (Ends (suc k) ss (pump_slot k s q)) (pump_slot k s q)
 slot_ends k s ss q dues ends =
-    let P : Job → Type 0 = λ j. (k < j.due) × Ends k (s ∷ ss) q j in
-    let r = pump_slot k s q in
-    each_map P (Ends (suc k) ss r) r
-    (λ j h. let n : j.due - k ≡ suc (j.due - suc k) = omega (arith, h.0) in rw n at h.1)
-    (each_slot P k s q (λ u j h. h) (each_zip (λ j. k < j.due) (Ends k (s ∷ ss) q) P q (λ j a b. (a, b)) dues ends))
+    each_zip (λ j. k < j.due) (Ends k (s ∷ ss) q) (Ends (suc k) ss (pump_slot k s q)) (pump_slot k s q)
+    (λ j d g. let n : j.due - k ≡ suc (j.due - suc k) = omega arith in rw n at g)
+    (each_slot (λ j. k < j.due) k s q (λ u j h. h) dues)
+    (each_slot (Ends k (s ∷ ss) q) k s q (λ u j h. h) ends)
 
 pub slot_dues : (k s : ℕ) (ss : List ℕ) (q : List Job) → Each (λ j. k < j.due) q → Each (Ends k (s ∷ ss) q) q → Each (λ j. suc k < j.due) (pump_slot k s q)
 slot_dues k s ss q dues ends =
