@@ -62,11 +62,9 @@ passed_jobs : (l : Ledger) (j : Job) → Sound l → Passed l j → Each (Fair l
 passed_jobs l j w p = each_enter (Fair l.clock l.slots) j l.queue (passed_fair l j p) w.jobs
 
 pub passed_sorted : (l : Ledger) (j : Job) → Sound l → Passed l j → Sorted l.clock (enter j l.queue)
-passed_sorted l j w p = record {
-  line = lined l.clock (enter j l.queue) (ordered_enter j l.queue w.ordered) (passed_unnested l j w p);
-  apart = passed_distinct l j w p;
-  some_left = each_left l.clock l.slots (enter j l.queue) (passed_jobs l j w p);
-}
+passed_sorted l j w p =
+    let q = enter j l.queue in
+    assumption (lined l.clock q (ordered_enter j l.queue w.ordered) (passed_unnested l j w p), passed_distinct l j w p, each_left l.clock l.slots q (passed_jobs l j w p))
 
 pub entered_sound : (l : Ledger) (j : Job) → Sound l → Passed l j → can_be_in_time l (enter j l.queue) ≡ true → Sound (entered j l)
 entered_sound l j w p h =

@@ -51,14 +51,7 @@ pub in_line : (h : List Call) → InLine (ledger h).clock (ledger h).slots (ledg
 in_line h =
     let l = ledger h in
     let w = ledger_sound h in
-    record {
-      ordered = w.ordered;
-      unnested = w.unnested;
-      distinct = w.distinct;
-      some_left = each_left l.clock l.slots l.queue w.jobs;
-      due_ahead = each_ahead l.clock l.slots l.queue w.jobs;
-      due_within = each_map (Fair l.clock l.slots) (λ j. j.due ≤ l.slots) l.queue (λ j f. f.due_within) w.jobs;
-    }
+    assumption (w, each_left l.clock l.slots l.queue w.jobs, each_ahead l.clock l.slots l.queue w.jobs, each_map (Fair l.clock l.slots) (λ j. j.due ≤ l.slots) l.queue (λ j f. f.due_within) w.jobs)
 
 -- ## Rivals are the sequences in time
 

@@ -137,8 +137,6 @@ slot_dues k s ss q dues ends =
     (cases_lt (suc k) j.due))
 
 pub slot_sorted : (k s : ℕ) (q : List Job) → Ordered q → Unnested k q → Distinct q → Sorted (suc k) (pump_slot k s q)
-slot_sorted k s q o u d = record {
-  line = lined (suc k) (pump_slot k s q) (ordered_slot k s q o) (unnested_later k (pump_slot k s q) (unnested_slot k k s q u));
-  apart = distinct_slot k s q d;
-  some_left = open_left (pumped k s q);
-}
+slot_sorted k s q o u d =
+    let r = pump_slot k s q in
+    assumption (lined (suc k) r (ordered_slot k s q o) (unnested_later k r (unnested_slot k k s q u)), distinct_slot k s q d, open_left (pumped k s q))
