@@ -8,12 +8,12 @@ use Rattle.measure.specs.Kinds.{measure_of}
 use Rattle.measure.specs.Orders.{Order, charge_lists}
 use Rattle.recursion.specs.Staged.{In}
 use Rattle.recursion.specs.Pumps.{Pump, work_after, InTime, Listed, InTimeSequence, charges_from}
-use Rattle.recursion.specs.Speeds.{lawful_speeds}
+use Rattle.recursion.specs.Speeds.{lawful_speeds, top_of}
 use Rattle.recursion.proofs.Ranked.{ranked_order}
 use Rattle.recursion.proofs.Rising.{lawful_gives, in_at}
 use Rattle.recursion.proofs.Sequences.{pump_optimal}
 use Rattle.ledger.specs.declared.job.Job.{Job}
-use Rattle.ledger.specs.Ledger.{Ledger, Charges, slots_left, pump_for, no_charge, Sequence, keeps_time, top_of, top_throughout, can_be_in_time, plan_for, charges_of}
+use Rattle.ledger.specs.Ledger.{Ledger, Charges, slots_left, pump_for, no_charge, Sequence, keeps_time, top_throughout, can_be_in_time, plan_for, charges_of}
 use Rattle.ledger.specs.Theorems.{TopSpeedDecides}
 use Rattle.ledger.proofs.Pump.{step}
 use Rattle.ledger.proofs.Times.{recharged, top_in_time}

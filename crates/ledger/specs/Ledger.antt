@@ -1,11 +1,11 @@
 -- Words: ledger, standing plan, call, sequence, refusal, what a call makes of the ledger.
 -- The ledger is the model that a stay is compared with. It is fed calls and nothing else: whether a call is refused it finds by
 -- the rules, so that what a stay refuses is compared too.
-use Rattle.std.specs.Prelude.{ℕ, suc, ◌+◌, ◌-◌, ◌*◌, ◌≤◌, Bool, true, false, cond, not, ◌&&◌, ◌||◌, List, [], ◌∷◌, length, replicate, Some, None, Option, ◌==◌, nat_le, nat_lt, slice_index}
+use Rattle.std.specs.Prelude.{ℕ, suc, ◌+◌, ◌-◌, ◌*◌, ◌≤◌, Bool, true, false, cond, not, ◌&&◌, ◌||◌, List, [], ◌∷◌, length, replicate, Some, None, Option, ◌==◌, nat_le, nat_lt}
 use Rattle.tariff.specs.Charges.{last_slot, top_speed, largest_charge}
 use Rattle.measure.specs.Orders.{Order, charge_lists}
 use Rattle.recursion.specs.Pumps.{Pump, work_after, charges_from, planned_speeds, InTimeSequence}
-use Rattle.recursion.specs.Speeds.{lawful_speeds}
+use Rattle.recursion.specs.Speeds.{lawful_speeds, top_of}
 use Rattle.ledger.specs.declared.job.Job.{Job}
 use Rattle.ledger.specs.declared.refusal.Refusal.{Refusal}
 use Rattle.ledger.specs.declared.refusal.Refusal.TheVariants.{SlotCount, SpeedList, JobNumber, JobSlots, JobWork, NumberOpen, NoRoom, Nested, NotInTime, NoSuchJob, ShortMemory, StayOver, NotPlanned}
@@ -61,10 +61,6 @@ Sequence l q ss = InTimeSequence (pump_for l.speeds q no_charge) (slots_left l) 
 abbrev pub keeps_time : Pump → ℕ → ℕ → List ℕ → Bool
 keeps_time y k e [] = true
 keeps_time y k e (s ∷ ss) = nat_le (y.due (suc k)) (work_after y k e s) && keeps_time y (suc k) (work_after y k e s) ss
-
--- the last speed of a list, which is the fastest where the list is lawful
-abbrev pub top_of : List ℕ → ℕ
-top_of speeds = slice_index speeds (length speeds - 1)
 
 -- top speed in every slot from the clock on
 abbrev pub top_throughout : Ledger → List ℕ

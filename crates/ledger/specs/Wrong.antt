@@ -6,7 +6,8 @@ use Rattle.measure.specs.Orders.{Order}
 use Rattle.ledger.specs.declared.job.Job.{Job}
 use Rattle.ledger.specs.declared.refusal.Refusal.{Refusal}
 use Rattle.ledger.specs.declared.refusal.Refusal.TheVariants.{NotInTime}
-use Rattle.ledger.specs.Ledger.{Ledger, Charges, Call, booking, slots_left, top_of, top_throughout, plan_for, nested, booking_rules, refusal, ledger}
+use Rattle.recursion.specs.Speeds.{top_of}
+use Rattle.ledger.specs.Ledger.{Ledger, Charges, Call, booking, slots_left, top_throughout, plan_for, nested, booking_rules, refusal, ledger}
 use Rattle.ledger.specs.Answers.{Answer}
 use Rattle.ledger.specs.AnswerLaws.{RunIsLawful}
 use Rattle.ledger.specs.Promise.{IsBest, ExactVerdict}

@@ -3,9 +3,9 @@ use Rattle.std.proofs.Common.{◌≡◌, ℕ, suc, ◌+◌, ◌-◌, ◌<◌, �
 use Rattle.std.proofs.lemmas.Bool.{ltb-true, ltb-false, le-leb, lt-leb}
 use Rattle.tariff.specs.Checks.{TestIsExact}
 use Rattle.recursion.specs.Pumps.{Pump, work_after}
-use Rattle.recursion.specs.Speeds.{lawful_speeds}
+use Rattle.recursion.specs.Speeds.{lawful_speeds, top_of}
 use Rattle.ledger.specs.declared.job.Job.{Job}
-use Rattle.ledger.specs.Ledger.{Ledger, no_plan, pump_for, no_charge, keeps_time, top_of, top_throughout, can_be_in_time}
+use Rattle.ledger.specs.Ledger.{Ledger, no_plan, pump_for, no_charge, keeps_time, top_throughout, can_be_in_time}
 use Rattle.ledger.proofs.Plans.{sequence_top, top_sequence}
 use Rattle.stay.specs.Room.{Room}
 

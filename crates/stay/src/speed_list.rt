@@ -1,7 +1,6 @@
 // The speeds that a stay is opened with.
 ghost use Rattle.std.specs.Prelude.{◌≡◌, ◌≤◌, true, [], ◌∷◌, take, is_some, Some, None};
-ghost use Rattle.recursion.specs.Speeds.{lawful_speeds};
-ghost use Rattle.ledger.specs.Ledger.{top_of};
+ghost use Rattle.recursion.specs.Speeds.{lawful_speeds, top_of};
 
 use crate::speeds::as_bytes;
 use recursion::lawful;
