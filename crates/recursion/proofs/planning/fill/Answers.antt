@@ -36,21 +36,21 @@ pub invariant_of-window : goal.invariant_of-window
 invariant_of-window g c =
     let inv = c.loop-i.invariant in
     let t = turn (top_of c.args.speeds.listed.now) c.args.slots.work.now c.loop-i.i-iterator.iter.iter.rest.now c.next.new.self.iter.iter.rest.now c.in-Some.slot.now c.args.reach.now c.in-Some.i c.max-need.result c.loop-i.low c.saturating_sub-low.result c.args.slots.width
-    inv.1 c.in-Some.ensures.steps.1.0 (omega (arith, c.in-Some.ensures.steps.1.1, inv.0)) c.requires.reached c.requires.possible inv.2.low_is c.max-need.ensures (omega (arith, c.saturating_sub-low.ensures, c.top-top.ensures)) c.args.slots.wide in
+    inv.1 c.in-Some.ensures.steps.1.0 (omega (arith, c.in-Some.ensures.steps.1.1, inv.0)) c.requires.reached c.requires.possible inv.2.low_is (omega (arith, c.max-need.ensures)) (omega (arith, c.saturating_sub-low.ensures, c.top-top.ensures)) c.args.slots.wide in
     record { near = omega (arith, t.high_in); told = omega (arith, t.arrived_in); enough = omega (arith, t.enough) }
 
 pub fill_row-requires-clause-inside : goal.fill_row-requires-clause-inside
 fill_row-requires-clause-inside g c =
     let inv = c.loop-i.invariant in
     let t = turn (top_of c.args.speeds.listed.now) c.args.slots.work.now c.loop-i.i-iterator.iter.iter.rest.now c.next.new.self.iter.iter.rest.now c.in-Some.slot.now c.args.reach.now c.in-Some.i c.max-need.result c.loop-i.low c.saturating_sub-low.result c.args.slots.width
-    inv.1 c.in-Some.ensures.steps.1.0 (omega (arith, c.in-Some.ensures.steps.1.1, inv.0)) c.requires.reached c.requires.possible inv.2.low_is c.max-need.ensures (omega (arith, c.saturating_sub-low.ensures, c.top-top.ensures)) c.args.slots.wide in
+    inv.1 c.in-Some.ensures.steps.1.0 (omega (arith, c.in-Some.ensures.steps.1.1, inv.0)) c.requires.reached c.requires.possible inv.2.low_is (omega (arith, c.max-need.ensures)) (omega (arith, c.saturating_sub-low.ensures, c.top-top.ensures)) c.args.slots.wide in
     (omega (arith, t.arrived_in, inv.3), omega (arith, t.high_in, inv.4), simp (length-take, length-drop) (omega (arith, t.high_in, t.wide, t.last, c.loop-i.auto.bytes, c.requires.memory.0)))
 
 pub loop-i-preserved : goal.loop-i-preserved
 loop-i-preserved g c =
     let inv = c.loop-i.invariant in
     let t = turn (top_of c.args.speeds.listed.now) c.args.slots.work.now c.loop-i.i-iterator.iter.iter.rest.now c.next.new.self.iter.iter.rest.now c.in-Some.slot.now c.args.reach.now c.in-Some.i c.max-need.result c.loop-i.low c.saturating_sub-low.result c.args.slots.width
-    inv.1 c.in-Some.ensures.steps.1.0 (omega (arith, c.in-Some.ensures.steps.1.1, inv.0)) c.requires.reached c.requires.possible inv.2.low_is c.max-need.ensures (omega (arith, c.saturating_sub-low.ensures, c.top-top.ensures)) c.args.slots.wide in
+    inv.1 c.in-Some.ensures.steps.1.0 (omega (arith, c.in-Some.ensures.steps.1.1, inv.0)) c.requires.reached c.requires.possible inv.2.low_is (omega (arith, c.max-need.ensures)) (omega (arith, c.saturating_sub-low.ensures, c.top-top.ensures)) c.args.slots.wide in
     let q = g.M.Measure.kind in
     let charge = g.T.Tariff.charge c.args.tariff.now in
     let ss = c.args.speeds.listed.now in
