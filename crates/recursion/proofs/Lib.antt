@@ -6,10 +6,7 @@ pub mod Alike
 pub mod Rising
 pub mod Feeding
 pub mod Matters
-pub mod Reaching
 pub mod Choosing
-pub mod Filling
-pub mod Following
 pub mod Tables
 pub mod Answering
 pub mod Rest

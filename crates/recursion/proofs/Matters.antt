@@ -70,20 +70,20 @@ module _ {M : Type 0} (q : Kind M) (y : Pump) (top : ℕ) (tops : (s : ℕ) → 
   allowed_keeps_up (w ∷ ws) k e f [] fed a h = absurd a
   allowed_keeps_up (w ∷ ws) k e f (c ∷ cs) fed a h =
       let le : w.due ≤ min (f + top) w.arrived = omega (arith, leb-true (y.due (suc k)) (work_after y k e c) a.1, tops c a.0, fed.0, fed.1) in
-      and_from (leb w.due (min (f + top) w.arrived)) (keeps_up top ws (min (f + top) w.arrived)) (le-leb _ _ le)
+      and_from _ _ (le-leb _ _ le)
       (allowed_keeps_up ws (suc k) (work_after y k e c) (min (f + top) w.arrived) cs fed.2 a.2 (omega (arith, tops c a.0, fed.0)))
 
 -- where top speed keeps up, the work done is not below the low
 pub low_under : (top : ℕ) (ws : List SlotWork) (e : ℕ) → keeps_up top ws e ≡ true → low_for top ws ≤ e
 low_under top [] e h = omega arith
 low_under top (w ∷ ws) e h =
-    let p = and_parts (leb w.due (min (e + top) w.arrived)) (keeps_up top ws (min (e + top) w.arrived)) h in
+    let p = and_parts _ _ h in
     omega (arith, leb-true w.due (min (e + top) w.arrived) p.0, low_under top ws (min (e + top) w.arrived) p.1)
 
 -- nor does it need more than has arrived
 pub need_under : (top : ℕ) (w : SlotWork) (ws : List SlotWork) (e : ℕ) → keeps_up top (w ∷ ws) e ≡ true → max w.due (low_for top ws) ≤ w.arrived
 need_under top w ws e h =
-    let p = and_parts (leb w.due (min (e + top) w.arrived)) (keeps_up top ws (min (e + top) w.arrived)) h in
+    let p = and_parts _ _ h in
     omega (arith, leb-true w.due (min (e + top) w.arrived) p.0, low_under top ws (min (e + top) w.arrived) p.1)
 
 -- one slot more at top speed
@@ -97,4 +97,4 @@ pub keeps_up_on : (top : ℕ) (ws : List SlotWork) (e i : ℕ) → keeps_up top 
 keeps_up_on top ws e zero h = h
 keeps_up_on top [] e (suc i) h = refl
 keeps_up_on top (w ∷ ws) e (suc i) h =
-    keeps_up_on top ws (min (e + top) w.arrived) i (and_parts (leb w.due (min (e + top) w.arrived)) (keeps_up top ws (min (e + top) w.arrived)) h).1
+    keeps_up_on top ws (min (e + top) w.arrived) i (and_parts _ _ h).1

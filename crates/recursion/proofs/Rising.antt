@@ -20,7 +20,7 @@ rises_step ss i p h lt =
 -- a list rises exactly if each element is below the next
 rises_each : (s : ℕ) (ss : List ℕ) → ((k : ℕ) → k < length ss → true ≡ ltb (get_or (s ∷ ss) k 0) (get_or ss k 0)) → true ≡ rises_from s ss
 rises_each s [] h = refl
-rises_each s (t ∷ ss) h = sym (and_from (ltb s t) (rises_from t ss) (sym (h 0 (omega arith))) (sym (rises_each t ss (λ k l. h (suc k) (omega arith)))))
+rises_each s (t ∷ ss) h = sym (and_from _ _ (sym (h 0 (omega arith))) (sym (rises_each t ss (λ k l. h (suc k) (omega arith)))))
 
 rises_not : (s : ℕ) (ss : List ℕ) (k : ℕ) → k < length ss → false ≡ ltb (get_or (s ∷ ss) k 0) (get_or ss k 0) → false ≡ rises_from s ss
 rises_not s [] k l h = absurd (omega arith)
@@ -62,24 +62,24 @@ pub record Lawful (ss : List ℕ) (top : ℕ) : Type 0 where
 above : (s : ℕ) (ss : List ℕ) → rises_from s ss ≡ true → (d : ℕ) → In d ss → s < d
 above s [] h d i = absurd i
 above s (t ∷ ss) h d i =
-    let p = and_parts (ltb s t) (rises_from t ss) h in
+    let p = and_parts _ _ h in
     let lt : s < t = ltb-true s t p.0 in
     ⊎_elim (λ e. omega arith) (λ j. omega (arith, above t ss p.1 d j)) i
 
 rising_from : (s : ℕ) (ss : List ℕ) → rises_from s ss ≡ true → Rising (s ∷ ss)
 rising_from s [] h = (above s [] h, tt)
-rising_from s (t ∷ ss) h = (above s (t ∷ ss) h, rising_from t ss (and_parts (ltb s t) (rises_from t ss) h).1)
+rising_from s (t ∷ ss) h = (above s (t ∷ ss) h, rising_from t ss (and_parts _ _ h).1)
 
 under_last : (s : ℕ) (ss : List ℕ) → rises_from s ss ≡ true → s ≤ last_from s ss
 under_last s [] h = omega arith
 under_last s (t ∷ ss) h =
-    let p = and_parts (ltb s t) (rises_from t ss) h in
+    let p = and_parts _ _ h in
     omega (arith, ltb-true s t p.0, under_last t ss p.1)
 
 in_under_last : (s : ℕ) (ss : List ℕ) → rises_from s ss ≡ true → (d : ℕ) → In d (s ∷ ss) → d ≤ last_from s ss
 in_under_last s ss h d (inl e) = omega (arith, under_last s ss h)
 in_under_last s [] h d (inr i) = absurd i
-in_under_last s (t ∷ ss) h d (inr i) = in_under_last t ss (and_parts (ltb s t) (rises_from t ss) h).1 d i
+in_under_last s (t ∷ ss) h d (inr i) = in_under_last t ss (and_parts _ _ h).1 d i
 
 pub lawful_gives : (ss : List ℕ) → lawful_speeds ss ≡ true → Lawful ss (get_or ss (length ss - 1) 0)
 lawful_gives [] h = absurd (clash h)
@@ -123,7 +123,7 @@ from_top ss k s h =
 
 rises_true : (s : ℕ) (ss : List ℕ) → Rising (s ∷ ss) → rises_from s ss ≡ true
 rises_true s [] h = refl
-rises_true s (t ∷ ss) h = and_from (ltb s t) (rises_from t ss) (lt-ltb s t (h.0 t (inl refl))) (rises_true t ss h.1)
+rises_true s (t ∷ ss) h = and_from _ _ (lt-ltb s t (h.0 t (inl refl))) (rises_true t ss h.1)
 
 last_in : (s : ℕ) (ss : List ℕ) → In (last_from s ss) (s ∷ ss)
 last_in s [] = inl refl

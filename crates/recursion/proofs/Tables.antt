@@ -10,7 +10,6 @@ use Rattle.recursion.specs.Windows.{keeps_up, reach_at, low_for}
 use Rattle.recursion.specs.Work.{no_work, arrived_at, due_at, most_arrived}
 use Rattle.recursion.specs.declared.work.SlotWork.{SlotWork}
 use Rattle.recursion.proofs.Feeding.{Feeds, feeds_drop}
-use Rattle.recursion.proofs.Following.{most_at}
 use Rattle.recursion.proofs.Matters.{row_least, low_under, need_under, reach_next, keeps_up_on}
 
 -- the row that is written lies in its place, and what stands behind it stays
@@ -29,6 +28,11 @@ row_behind t c a b w i e fits size h =
     ∙ get_or-drop (b - a) (drop a t) ((i - a) - w) 0
     ∙ get_or-drop a t ((b - a) + ((i - a) - w)) 0
     ∙ ap (λ (v : ℕ). get_or t v 0) place
+
+pub most_at : (ws : List SlotWork) (i : ℕ) → arrived_at ws i ≤ most_arrived ws
+most_at [] i = omega arith
+most_at (w ∷ ws) zero = omega arith
+most_at (w ∷ ws) (suc i) = omega (arith, most_at ws i)
 
 pub reach_most : (top : ℕ) (ws : List SlotWork) (e i : ℕ) → reach_at top ws e i ≤ max e (most_arrived ws)
 reach_most top ws e zero = omega arith

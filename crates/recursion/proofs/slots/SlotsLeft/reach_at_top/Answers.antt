@@ -1,10 +1,23 @@
-use Rattle.std.proofs.Common.{◌≤◌, arith, rules}
-use Rattle.recursion.specs.Work.{arrived_at}
-use Rattle.recursion.proofs.Reaching.{reaching_next}
+use Rattle.std.proofs.Common.{◌≡◌, ◌+◌, ap, ◌∙◌, ⊎_elim, add-one, arith}
+use Rattle.std.proofs.lemmas.Bool.{cases_lt}
+use Rattle.std.proofs.lemmas.Grind.{common_steps}
+use Rattle.recursion.specs.Windows.{reach_at}
+use Rattle.recursion.proofs.Matters.{reach_next}
 use Rattle.recursion.proofs.slots.SlotsLeft.reach_at_top.Goals as goal
 
 pub loop-i-preserved : goal.loop-i-preserved
 loop-i-preserved c =
-    let ws = c.args.self.work.now in
-    let low : arrived_at ws c.loop-i.i ≤ 65535 = search rules in
-    reaching_next c.args.top ws c.loop-i.reach c.loop-i.i c.min-done.result (omega arith) c.loop-i-test.true c.loop-i.invariant c.min-done.ensures c.if-done-slot.false (omega arith)
+    let top = c.args.top in
+    let work = c.args.self.work.now in
+    let i = c.loop-i.i in
+    let far : reach_at top work 0 (i + 1) ≡ c.min-done.result =
+    ap (reach_at top work 0) (add-one i) ∙ omega (arith, reach_next top work 0 i c.loop-i-test.true, c.loop-i.invariant.reached i (omega arith), c.min-done.ensures) in
+    record {
+      whole = grind (arith, common_steps);
+      reached = λ j le. ⊎_elim
+          (λ lt. grind (arith, common_steps, c.loop-i.invariant.reached j (omega arith)))
+          (λ ge. let same : j ≡ i + 1 = omega arith in grind (arith, common_steps, ap (reach_at top work 0) same))
+          (cases_lt j (i + 1));
+      on = grind (arith, common_steps);
+      small = grind (arith, common_steps);
+    }
