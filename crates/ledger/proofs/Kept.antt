@@ -8,12 +8,12 @@ use Rattle.ledger.specs.declared.refusal.Refusal.{Refusal}
 use Rattle.ledger.specs.declared.refusal.Refusal.TheVariants.{SlotCount, SpeedList, StayOver, NotPlanned}
 use Rattle.ledger.specs.Limits.{most_slots, most_jobs, most_work}
 use Rattle.ledger.specs.Queue.{Each, Distinct, Apart, Unnested, before, enter, strike, work, pumped, pump_slot}
-use Rattle.ledger.specs.Ledger.{Ledger, Standing, no_plan, plan, Charges, Call, opening, booking, withdrawing, planning, running, slots_left, pump_for, no_charge, Sequence, top_throughout, can_be_in_time, plan_for, is_planned, rule, refusal, with_plan, with_queue, entered, slot_run, run_by, accepted, unless_refused, after, new, ledger}
+use Rattle.ledger.specs.Ledger.{Ledger, Standing, no_plan, plan, Charges, Call, opening, booking, withdrawing, planning, running, slots_left, Sequence, top_throughout, can_be_in_time, plan_for, is_planned, rule, refusal, with_plan, with_queue, entered, slot_run, run_by, accepted, unless_refused, after, new, ledger}
 use Rattle.ledger.specs.Sound.{Fair, PlanFits, Sound}
 use Rattle.ledger.proofs.Queues.{each_map, each_zip, lined, unnested_later, each_enter, pairs_enter, ordered_enter, length_enter, work_enter, each_strike, pairs_strike, length_strike, work_strike}
 use Rattle.ledger.proofs.Slots.{each_slot, open_left, ordered_slot, unnested_slot, distinct_slot, slot_work, slot_count}
 use Rattle.ledger.proofs.Times.{Sorted, Within, in_time_ends, ends_in_time, struck_in_time, slot_ends, slot_dues, slot_sorted}
-use Rattle.ledger.proofs.Plans.{plan_best, top_sequence, decides_in_time, idle_in_time}
+use Rattle.ledger.proofs.Plans.{plan_best, top_sequence, decides_top, idle_in_time}
 use Rattle.ledger.proofs.Booked.{Passed, taken, closed_apart, unnested_apart, passed_fair, passed_room}
 
 -- ## A sound ledger's queue
@@ -42,8 +42,7 @@ opening_passes n lawful h = grind (arith, nat_tests)
 just_opened_sound : (n : ℕ) (ss : List ℕ) → 1 ≤ n → n ≤ most_slots → lawful_speeds ss ≡ true → Sound (just_opened n ss)
 just_opened_sound n ss some few lawful =
     let m = just_opened n ss in
-    let told = (decides_in_time (pump_for ss [] no_charge) 0 0 (top_throughout m)).1 (idle_in_time ss 0 0 (top_throughout m)) in
-    let possible : (ts : List ℕ) × Sequence m [] ts = (top_throughout m, top_sequence m [] lawful told) in
+    let possible : (ts : List ℕ) × Sequence m [] ts = (top_throughout m, top_sequence m [] lawful ((decides_top m []).1 (idle_in_time ss 0 0 (top_throughout m)))) in
     let nought : (0 ≤ n) × (0 ≤ most_jobs) × (0 ≤ most_work) = omega arith in
     assumption
 

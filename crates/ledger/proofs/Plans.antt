@@ -1,9 +1,9 @@
 -- Sequences of listed speeds: the planned one is best, and top speed decides whether there is any.
 use Rattle.std.proofs.Common.{◌≡◌, ℕ, zero, suc, ◌-◌, ◌≤◌, Bool, true, Decides, leb, List, [], ◌∷◌, length, replicate, sym, refl, ap, ◌∙◌, arith}
 use borrow.Author.Tests.{clash}
-use lib.ListN.{length-replicate}
 use Rattle.std.proofs.lemmas.Bool.{leb-true, le-leb}
 use Rattle.std.proofs.lemmas.Bool.Decides.{Decides-and}
+use Rattle.std.proofs.lemmas.List.{length-replicate}
 use Rattle.measure.specs.Kinds.{measure_of}
 use Rattle.measure.specs.Orders.{Order, charge_lists}
 use Rattle.recursion.specs.Staged.{In}
@@ -56,6 +56,9 @@ pub decides_in_time : (y : Pump) (k e : ℕ) (ss : List ℕ) → Decides (keeps_
 decides_in_time y k e [] = ((λ _. tt), λ _. refl)
 decides_in_time y k e (s ∷ ss) = Decides-and _ _ (decides_leb _ _) (decides_in_time y (suc k) (work_after y k e s) ss)
 
+pub decides_top : (l : Ledger) (q : List Job) → Decides (can_be_in_time l q) (InTime (pump_for l.speeds q no_charge) l.clock 0 (top_throughout l))
+decides_top l q = decides_in_time (pump_for l.speeds q no_charge) l.clock 0 (top_throughout l)
+
 all_listed : (speeds : List ℕ) (s n : ℕ) → In s speeds → Listed speeds (replicate n s)
 all_listed speeds s zero h = tt
 all_listed speeds s (suc n) h = (h, all_listed speeds s n h)
@@ -68,7 +71,7 @@ pub top_sequence : (l : Ledger) (q : List Job) → lawful_speeds l.speeds ≡ tr
 top_sequence l q lw h = record {
   each_slot = length-replicate (slots_left l) (top_of l.speeds);
   listed = all_listed l.speeds (top_of l.speeds) (slots_left l) (top_listed l.speeds lw);
-  in_time = (decides_in_time (pump_for l.speeds q no_charge) l.clock 0 (top_throughout l)).0 h;
+  in_time = (decides_top l q).0 h;
 }
 
 -- and where any sequence is in time, so is top speed throughout
@@ -77,11 +80,11 @@ top_as_well l q lw ss r =
     rw r.each_slot at (top_in_time l.speeds (top_of l.speeds) q l.clock 0 0 ss (lawful_gives l.speeds lw).under_top r.listed (omega arith) r.in_time)
 
 pub sequence_top : (l : Ledger) (q : List Job) → lawful_speeds l.speeds ≡ true → (ss : List ℕ) → Sequence l q ss → can_be_in_time l q ≡ true
-sequence_top l q lw ss r = (decides_in_time (pump_for l.speeds q no_charge) l.clock 0 (top_throughout l)).1 (top_as_well l q lw ss r)
+sequence_top l q lw ss r = (decides_top l q).1 (top_as_well l q lw ss r)
 
 pub top_decides : TopSpeedDecides
 top_decides l q lw = record {
-  some_if_top = λ h. (top_throughout l, top_sequence l q lw ((decides_in_time (pump_for l.speeds q no_charge) l.clock 0 (top_throughout l)).1 h));
+  some_if_top = λ h. (top_throughout l, top_sequence l q lw ((decides_top l q).1 h));
   top_if_some = top_as_well l q lw;
   some_if_told = λ h. (top_throughout l, top_sequence l q lw h);
   none_if_told = λ f ss r. clash (sym f ∙ sequence_top l q lw ss r);

@@ -56,15 +56,14 @@ module _ (k s : ℕ) (j : Job) (q front back r : List Job) (apart : Gone j.numbe
       rw v.is (gone_both j.number v.of_front v.of_back (still_gone j.number front v.of_front g.0 stays) (still_gone j.number back v.of_back g.1 v.back_open))
 
   both_served : StillOpen (j ∷ []) w.of_front → StillOpen (j ∷ front) v.of_front → FirstServed k (s - share k s j) front back w.of_back
-  both_served (inl e) (inl stays) =
-      record {
-        of_front = v.of_front;
-        of_back = v.of_back;
-        is = sym (rw e at w.is) ∙ v.is;
-        front_open = stays;
-        back_open = v.back_open;
-        falls = falls_behind k s j front (work v.of_front) 0 (omega (arith, w.falls, ap work e)) (omega (arith, v.falls));
-      }
+  both_served (inl e) (inl stays) = record {
+    of_front = v.of_front;
+    of_back = v.of_back;
+    is = sym (rw e at w.is) ∙ v.is;
+    front_open = stays;
+    back_open = v.back_open;
+    falls = falls_behind k s j front (work v.of_front) 0 (omega (arith, w.falls, ap work e)) (omega (arith, v.falls));
+  }
   both_served (inl e) (inr (m, rest, some, most, is, stays)) =
       absurd ((rw (sym (rw e at w.is) ∙ rw is at v.is) at (still_gone j.number q w.of_back apart w.back_open)).0 refl)
   both_served (inr (n, none, a, b, e, c)) (inl stays) = absurd ((rw (rw e at w.is) at (whole_gone stays)).0 refl)
