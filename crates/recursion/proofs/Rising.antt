@@ -1,21 +1,13 @@
 -- Lists of speeds: the steps of the tests, and what a lawful list gives.
 use Rattle.std.proofs.Common.{◌≡◌, ℕ, zero, suc, ◌+◌, ◌-◌, ◌<◌, ◌≤◌, Bool, true, false, ◌&&◌, eqb, ltb, leb, List, [], ◌∷◌, length, get_or, take, drop, reverse, sym, refl, ap, ◌∙◌, subst, inl, inr, ⊎_elim, add-one, arith}
 use borrow.Author.Tests.{clash}
-use Rattle.std.proofs.lemmas.List.{at_drop_more, get_or_past, get_or_default, get_or-reverse, get_or-take, length-reverse, length-take-le}
+use Rattle.std.proofs.lemmas.List.{get_or_past, get_or_default, get_or-reverse, get_or-take, length-reverse, length-take-le}
 use Rattle.std.proofs.Math.Bool.{and-false}
-use Rattle.std.proofs.lemmas.Bool.{cases_lt, leb-true, ltb-true, le-leb, lt-ltb, le-ltb, eq-eqb, eqb-true, and_parts, and_from}
+use Rattle.std.proofs.lemmas.Bool.{cases_lt, leb-true, ltb-true, le-leb, lt-ltb, eq-eqb, eqb-true, and_parts, and_from}
 use Rattle.std.specs.List.{IsAllAdjacentAnswer}
 use Rattle.tariff.specs.Checks.{TestIsExact}
 use Rattle.recursion.specs.Staged.{In, Rising}
 use Rattle.recursion.specs.Speeds.{rises_from, last_from, lawful_speeds, LawfulList}
-
-pub rises_stop : (ss : List ℕ) (i p : ℕ) → i < length ss → get_or ss i 0 ≤ p → rises_from p (drop i ss) ≡ false
-rises_stop ss i p h le =
-    at_drop_more (rises_from p) ss i 0 h ∙ ap (λ (b : Bool). b && rises_from (get_or ss i 0) (drop (i + 1) ss)) (le-ltb p (get_or ss i 0) le)
-
-pub rises_step : (ss : List ℕ) (i p : ℕ) → i < length ss → p < get_or ss i 0 → rises_from (get_or ss i 0) (drop (i + 1) ss) ≡ rises_from p (drop i ss)
-rises_step ss i p h lt =
-    sym (at_drop_more (rises_from p) ss i 0 h ∙ ap (λ (b : Bool). b && rises_from (get_or ss i 0) (drop (i + 1) ss)) (lt-ltb p (get_or ss i 0) lt))
 
 -- a list rises exactly if each element is below the next
 rises_each : (s : ℕ) (ss : List ℕ) → ((k : ℕ) → k < length ss → true ≡ ltb (get_or (s ∷ ss) k 0) (get_or ss k 0)) → true ≡ rises_from s ss
