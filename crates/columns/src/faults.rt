@@ -46,6 +46,8 @@ pub struct OnLine<C> {
     pub fault: C,
 }
 
+// The conversions are written out, so that clauses can name the case that `?` makes.
+
 impl From<FieldFault> for LineFault {
     ghost from_gives = { λ fault r. r ≡ Field fault };
 
@@ -72,6 +74,8 @@ impl<C> From<OnLine<C>> for FileFault<C> {
         }
     }
 }
+
+// The numbers are the format's; a case that holds fields carries none.
 
 impl Numbered for FieldFault {
     ghost numbered = { number_of_field };

@@ -39,6 +39,7 @@ impl Stay {
         if work == 0 || work > MOST_WORK {
             return Err(Refusal::JobWork);
         }
+        // Each cast follows the test that makes it fit.
         Ok(Job {
             number,
             release: release as u8,

@@ -2,6 +2,7 @@
 ghost use Rattle.std.specs.Prelude.{◌≡◌, replicate};
 
 /// A standing plan: its mark, and a speed for each slot.
+// A fixed array: the library has no heap.
 #[derive(Clone, Copy)]
 pub(crate) struct PlanRecord {
     pub(crate) mark: u8,

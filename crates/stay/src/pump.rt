@@ -64,6 +64,7 @@ impl Table<Job> {
         ensures queue { queue_of result ≡ unfinished (queue_of self.now) }
         ensures count { result.count ≤ self.now.count }
     {
+        // By place: the jobs that stay close up.
         let mut jobs = self.jobs;
         let mut count = 0;
         for job in self.open() {

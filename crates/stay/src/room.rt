@@ -32,6 +32,7 @@ impl Table<Job> {
     fn keeps_time(&self, ahead: SlotsAhead, speed: u8) -> bool
         ensures { (listed : List ℕ) → result ≡ keeps_time (pump_for listed (queue_of self.now) no_charge) ahead.clock 0 (replicate (ahead.slots - ahead.clock) speed) }
     {
+        // A loop: of what a closure changes a proof knows nothing.
         let mut done = 0u32;
         for k in ahead.clock..ahead.slots {
             done = self.done_after(k, done, speed);

@@ -8,6 +8,7 @@ ghost use Rattle.columns.specs.Reading.{file_of, lines_given, lines_left, number
 use super::{Line, Reader};
 
 /// How many bytes stand before the first newline, or in all where there is none.
+// One expression, as `blanks` is: a function of both would have a contract that ranges over tests.
 fn line_length(bytes: &[u8]) -> usize
     ensures { result ≡ length (first_line bytes.now) }
 {
