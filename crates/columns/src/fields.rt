@@ -47,6 +47,7 @@ fn value(bytes: &[u8]) -> Option<u32>
     ensures { result ≡ field_value bytes.now }
 {
     let text = &bytes[blanks(bytes)..];
+    // An `if`: `then` and `flatten` would say no more.
     if starts_well(text) {
         digits(text)
     } else {

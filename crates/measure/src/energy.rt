@@ -44,7 +44,7 @@ impl Measure for Energy {
     }
 
     fn not_above(self, other: Energy) -> bool {
-        other.value >= self.value
+        self <= other
     }
 }
 

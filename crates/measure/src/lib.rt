@@ -42,6 +42,13 @@ pub trait Measure: Copy {
     /// Whether this is no more than the other.
     fn not_above(self, other: Self) -> bool
         ensures { result ≡ kind.not_above self other };
+
+    /// The mark, as a function.
+    final fn mark_told() -> u8
+        ensures { result ≡ MARK }
+    {
+        Self::MARK
+    }
 }
 
 /// The law that lets a call that plans be told as data: a measure's values put an order on lists of charges.

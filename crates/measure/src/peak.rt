@@ -39,7 +39,7 @@ impl Measure for Peak {
     }
 
     fn not_above(self, other: Peak) -> bool {
-        other.value >= self.value
+        self <= other
     }
 }
 

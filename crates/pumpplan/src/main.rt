@@ -3,12 +3,14 @@
 
 ghost use Rattle.std.specs.Prelude.{◌≡◌, Ok};
 ghost use Rattle.tariff.specs.Checks.{told, values_of};
+ghost use Rattle.pumpplan.specs.declared.Fault.TheVariants.{Tariff as TariffFault, Unplanned as UnplannedFault};
 ghost use Rattle.pumpplan.specs.Worked.{worked_energies, worked_plan};
 
 use measure::{Energy, Measure};
 use recursion::{SlotWork, Unplanned, plan};
+use std::error::Error;
+use std::fmt;
 use tariff::{Energies, EnergyTable, Tariff, TariffRefusal};
-use thiserror::Error;
 
 // Watt-hours of a slot by speed; the pump runs at 0, 1 or 3.
 const ENERGIES: [u32; 16] = [1, 4, 0, 15, 0, 0, 0, 0, 0, 0, 0, 0, 0, 0, 0, 0];
@@ -24,13 +26,40 @@ const WORK: [SlotWork; 4] = [
 ];
 
 /// Why the stay is not planned.
-#[derive(Clone, Copy, Debug, Error)]
+#[derive(Clone, Copy, Debug)]
 enum Fault {
-    #[error("an energy passes its bound")]
-    Tariff(#[from] TariffRefusal),
-    #[error("the stay has no plan")]
-    Unplanned(#[from] Unplanned),
+    Tariff(TariffRefusal),
+    Unplanned(Unplanned),
 }
+
+// The conversions are written out, so that clauses can name the case that `?` makes.
+
+impl From<TariffRefusal> for Fault {
+    ghost from_gives = { λ e r. r ≡ TariffFault e };
+
+    fn from(e: TariffRefusal) -> Fault {
+        Fault::Tariff(e)
+    }
+}
+
+impl From<Unplanned> for Fault {
+    ghost from_gives = { λ e r. r ≡ UnplannedFault e };
+
+    fn from(e: Unplanned) -> Fault {
+        Fault::Unplanned(e)
+    }
+}
+
+impl fmt::Display for Fault {
+    fn fmt<W: fmt::Write>(&self, f: &mut fmt::Formatter<W>) -> fmt::Result {
+        match self {
+            Fault::Tariff(_) => write!(f, "the energies pass their bound"),
+            Fault::Unplanned(_) => write!(f, "the stay has no plan"),
+        }
+    }
+}
+
+impl Error for Fault {}
 
 /// The speeds of the slots and what they cost.
 #[derive(Clone, Copy)]
@@ -127,10 +156,8 @@ mod tests {
         let mut measures = [Energy::nought(); 12];
         let mut chosen = [9u8; 4];
         let part = &mut memory[0..bytes.min(24)];
-        match plan(tariff, speeds, 0, work, part, &mut measures, &mut chosen) {
-            Ok(least) => (Ok(least.value()), chosen),
-            Err(e) => (Err(e), chosen),
-        }
+        let least = plan(tariff, speeds, 0, work, part, &mut measures, &mut chosen);
+        (least.map(Energy::value), chosen)
     }
 
     #[test]
@@ -187,8 +214,8 @@ mod tests {
             &mut chosen,
         )?;
         assert_eq!(rt; highest.value(), 15);
-        assert_eq!(rt; Energy::MARK, 1);
-        assert_eq!(rt; Peak::MARK, 2);
+        assert_eq!(rt; Energy::MARK, Energy::mark_told());
+        assert_eq!(rt; Peak::MARK, Peak::mark_told());
         assert_eq!(rt; chosen, [0, 3, 1, 1]);
         let mut prices = [1u32; 96];
         prices[2] = 9;

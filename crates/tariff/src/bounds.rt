@@ -1,9 +1,9 @@
 // The check of a list of numbers against their bound.
 ghost use Rattle.std.specs.Prelude.{◌≡◌, ℕ, List};
-ghost use Rattle.tariff.specs.Bounds.{all_within, EachWithin, CoefficientsWithin};
+ghost use Rattle.tariff.specs.Bounds.{all_within, energy_bound, price_bound, EachWithin, CoefficientsWithin};
 ghost use Rattle.tariff.specs.Checks.{TestIsExact, coefficients_within, told, unless_past, values_of};
 
-use super::{Bounded, TariffRefusal};
+use super::{Bounded, Energies, Prices, TariffRefusal};
 
 // Whether no number passes the bound.
 fn within(numbers: &[u32], bound: u32) -> bool
@@ -30,3 +30,17 @@ pub fn bounds_are_tested_exactly()
     ensures lists { (bound : ℕ) (xs : List ℕ) → TestIsExact (EachWithin bound xs) (all_within bound xs) }
     ensures coefficients { (base linear cube : ℕ) → TestIsExact (CoefficientsWithin base linear cube) (coefficients_within base linear cube) }
 {}
+
+/// The law of the two checks: energies and prices are refused exactly past their own bounds.
+pub fn checks_keep_their_bounds(
+    energies: [u32; 16],
+    prices: [u32; 96],
+) -> (
+    Result<Energies, TariffRefusal>,
+    Result<Prices, TariffRefusal>,
+)
+    ensures energies { told values_of result.0 ≡ unless_past (all_within energy_bound energies) energies }
+    ensures prices { told values_of result.1 ≡ unless_past (all_within price_bound prices) prices }
+{
+    (Energies::checked(energies), Prices::checked(prices))
+}

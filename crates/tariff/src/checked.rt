@@ -9,10 +9,10 @@ pub struct Bounded<const N: usize, const BOUND: u32> {
     ghost bounded: { EachWithin BOUND values },
 }
 
-/// Watt-hours of one slot, for each speed 0 to 15.
+/// Watt-hours of one slot, for each speed 0 to 15, none above 1,000,000.
 pub type Energies = Bounded<16, 1_000_000>;
 
-/// A price for each slot 0 to 95.
+/// A price for each slot 0 to 95, none above 1,000.
 pub type Prices = Bounded<96, 1_000>;
 
 /// The three coefficients of a cubic drive.

@@ -11,7 +11,7 @@ mod energy_table;
 mod price_list;
 mod refusal;
 
-pub use bounds::bounds_are_tested_exactly;
+pub use bounds::{bounds_are_tested_exactly, checks_keep_their_bounds};
 pub use checked::{Bounded, Coefficients, Energies, Prices};
 pub use cubic_drive::CubicDrive;
 pub use energy_table::EnergyTable;
