@@ -27,6 +27,7 @@ fn last_row<M: Measure>(row: &mut [M], high: usize)
 
 // Fills the table of speeds, a row for each slot, and answers the least measure from the first slot on.
 // Of the measures only two rows are kept, the next slot's and this one's, in turn.
+// The two memories stay apart, as `plan` is lent them: its signature is public.
 fn fill<T: Tariff, M: Measure>(
     tariff: &T,
     speeds: LawfulSpeeds,
@@ -87,7 +88,7 @@ pub fn plan<T: Tariff, M: Measure>(
 {
     let slots = SlotsLeft::checked(first, work, chosen.len())?;
     let speeds = LawfulSpeeds::try_from(speeds)?;
-    slots.fit_in(bytes.len(), measures.len())?;
+    slots.check_memory(bytes.len(), measures.len())?;
     let reach = slots.reach_at_top(speeds.top())?;
     let least = fill(tariff, speeds, slots, &reach, bytes, measures);
     slots.follow(bytes, chosen);

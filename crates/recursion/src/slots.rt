@@ -47,7 +47,7 @@ impl<'a> SlotsLeft<'a> {
     }
 
     // Refuses lent memory that is short.
-    pub(crate) fn fit_in(self, bytes: usize, measures: usize) -> Result<(), Unplanned>
+    pub(crate) fn check_memory(self, bytes: usize, measures: usize) -> Result<(), Unplanned>
         ensures { MatchResult result (λ u. memory_short self.entry.work.now bytes measures ≡ false) (λ e. (e ≡ Memory) × (memory_short self.entry.work.now bytes measures ≡ true)) }
     {
         if bytes < self.work.len() * self.width || measures < 2 * self.width {
@@ -60,7 +60,8 @@ impl<'a> SlotsLeft<'a> {
     pub(crate) fn reach_at_top(self, top: u8) -> Result<[usize; 97], Unplanned>
         ensures { MatchResult result (λ reach. (keeps_up top self.entry.work.now 0 ≡ true) × ((i : ℕ) → i ≤ length self.entry.work.now → slice_index reach i ≡ reach_at top self.entry.work.now 0 i)) (λ e. (e ≡ Late) × (keeps_up top self.entry.work.now 0 ≡ false)) }
     {
-        // A fixed array, since no memory is allocated here; by index, since each place is made from the one before.
+        // A fixed array, since no memory is allocated here; by index, since each place is made
+        // from the one before: behind a `zip` of `iter_mut` a proof knows no element.
         let mut reach = [0usize; 97];
         for (i, slot) in self.work.iter().enumerate() {
             let done = (reach[i] + top as usize).min(slot.arrived as usize);

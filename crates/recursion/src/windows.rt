@@ -9,7 +9,7 @@ pub(crate) struct Window {
     pub(crate) high: usize,
     pub(crate) need: usize,
     pub(crate) arrived: usize,
-    ghost near: { high ≤ 65535 },
-    ghost told: { arrived ≤ 65535 },
-    ghost enough: { need ≤ arrived },
+    ghost high_small: { high ≤ 65535 },
+    ghost arrived_small: { arrived ≤ 65535 },
+    ghost need_arrived: { need ≤ arrived },
 }

@@ -37,7 +37,7 @@ invariant_of-window g c =
     let inv = c.loop-i.invariant in
     let t = turn (top_of c.args.speeds.listed.now) c.args.slots.work.now c.loop-i.i-iterator.iter.iter.rest.now c.next.new.self.iter.iter.rest.now c.in-Some.slot.now c.args.reach.now c.in-Some.i c.max-need.result c.loop-i.low c.saturating_sub-low.result c.args.slots.width
     inv.1 c.in-Some.ensures.steps.1.0 (omega (arith, c.in-Some.ensures.steps.1.1, inv.0)) c.requires.reached c.requires.possible inv.2.low_is (omega (arith, c.max-need.ensures)) (omega (arith, c.saturating_sub-low.ensures, c.top-top.ensures)) c.args.slots.wide in
-    record { near = omega (arith, t.high_in); told = omega (arith, t.arrived_in); enough = omega (arith, t.enough) }
+    record { high_small = omega (arith, t.high_in); arrived_small = omega (arith, t.arrived_in); need_arrived = omega (arith, t.enough) }
 
 pub fill_row-requires-clause-inside : goal.fill_row-requires-clause-inside
 fill_row-requires-clause-inside g c =
