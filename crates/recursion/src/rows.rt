@@ -38,7 +38,7 @@ fn start_row<M: Measure>(
     requires enough { window.need ≤ window.low + speed }
     ensures { (e : ℕ) → window.low ≤ e → e ≤ window.high → best (slice_index picks.new e) (slice_index_or row.new e M.Measure.kind.nought) ≡ offer M.Measure.kind measure window.arrived window.need next.now speed e }
 {
-    // By index, as in the loops below: after `iter_mut` a proof knows no element of a slice.
+    // By index, as in the loop below: two slices are written in step, and behind a `zip` of `iter_mut` a proof knows no element.
     for done in window.low..window.high + 1 {
         let then = (done + speed as usize).min(window.arrived);
         row[done] = with_rest(measure, next, then);
@@ -66,6 +66,7 @@ fn lower_between<M: Measure, F: Fn(usize) -> M>(
     requires callable { (e : ℕ) → from ≤ e → e < to → F.pre outcome e }
     ensures { (f : ℕ → M) → ((e : ℕ) (m : M) → from ≤ e → e < to → F.post outcome e m → m ≡ f e) → Lowered M.Measure.kind (λ e. best speed (f e)) from to picks.old row.old picks.new row.new }
 {
+    // By index: two slices are written in step, as `outcome` says; behind a `zip` of `iter_mut` a proof knows no element.
     for done in from..to {
         let here = outcome(done);
         if takes_place(here, row[done]) {
@@ -106,7 +107,7 @@ fn lower_row<M: Measure>(
 // Fills the row of a slot from that of the next one: at each work done of the window the lowest speed that comes to the
 // least, of those that do as much as is needed. Top speed does as much from the low on. The speeds are taken from the top
 // down, each over the whole row.
-// Window, rows and picks are no struct: each method would have to say which slices it leaves and which it lends back.
+// Window, rows and picks are no struct: tried, and its caller cannot tell what the slices hold once the struct is gone.
 pub(crate) fn fill_row<T: Tariff, M: Measure>(
     tariff: &T,
     speeds: LawfulSpeeds,

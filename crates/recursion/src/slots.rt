@@ -79,11 +79,9 @@ impl<'a> SlotsLeft<'a> {
         ensures { chosen.new ≡ followed self.entry.width table.now self.entry.work.now 0 0 }
     {
         let mut done = 0usize;
-        for (i, slot) in self.work.iter().enumerate() {
-            let speed = table[i * self.width + done];
-            // By index: after `iter_mut` a proof knows no element of a slice.
-            chosen[i] = speed;
-            done = (done + speed as usize).min(slot.arrived as usize);
+        for (i, place) in chosen.iter_mut().enumerate() {
+            *place = table[i * self.width + done];
+            done = (done + *place as usize).min(self.work[i].arrived as usize);
         }
     }
 }
