@@ -1,4 +1,4 @@
-use Rattle.std.proofs.Common.{◌≡◌, ℕ, ◌+◌, ◌-◌, ◌*◌, ◌≤◌, List, ◌++◌, take, drop, length, sym, ap, ◌∙◌, subst, arith}
+use Rattle.std.proofs.Common.{◌≡◌, ℕ, ◌+◌, ◌-◌, ◌*◌, ◌≤◌, List, ◌++◌, get_or, take, drop, length, sym, ap, ◌∙◌, subst, arith}
 use Rattle.std.proofs.lemmas.List.{length-take, length-drop, take_all}
 use Rattle.recursion.specs.Windows.{reach_at}
 use Rattle.recursion.specs.Rows.{Picked}
@@ -7,8 +7,9 @@ use Rattle.recursion.specs.Work.{arrived_at, pump_of}
 use Rattle.recursion.specs.declared.work.SlotWork.{SlotWork}
 use Rattle.recursion.proofs.Feeding.{feeds_pump}
 use Rattle.recursion.proofs.Rising.{lawful_gives}
-use Rattle.recursion.proofs.Tables.{Filled, reach_most, row_size, turn, filled_first, filled_last, filled_next}
+use Rattle.recursion.proofs.Tables.{Filled, Turn, reach_most, row_size, turn, filled_first, filled_last, filled_next}
 use Rattle.recursion.proofs.planning.fill.Goals as goal
+use Rattle.recursion.proofs.planning.fill.Goals.{After-saturating_sub-low}
 
 pub last_row-requires : goal.last_row-requires
 last_row-requires g c =
@@ -32,25 +33,29 @@ loop-i-init g c =
       omega arith,
     )
 
+-- a turn, once what is needed and the low before it are known
+turn_at : (g : _) (c : After-saturating_sub-low g)
+    → Turn (top_of c.args.speeds.listed.now) c.args.slots.work.now c.next.new.self.iter.iter.rest.now c.in-Some.slot.now c.in-Some.i (length c.loop-i.i-iterator.iter.iter.rest.now) (get_or c.args.reach.now c.in-Some.i 0) c.max-need.result c.loop-i.low c.saturating_sub-low.result c.args.slots.width
+turn_at g c =
+    let inv = c.loop-i.invariant in
+    turn (top_of c.args.speeds.listed.now) c.args.slots.work.now c.loop-i.i-iterator.iter.iter.rest.now c.next.new.self.iter.iter.rest.now c.in-Some.slot.now c.args.reach.now c.in-Some.i c.max-need.result c.loop-i.low c.saturating_sub-low.result c.args.slots.width
+    inv.1 c.in-Some.ensures.steps.1.0 (omega (arith, c.in-Some.ensures.steps.1.1, inv.0)) c.requires.reached c.requires.possible inv.2.low_is (omega (arith, c.max-need.ensures)) (omega (arith, c.saturating_sub-low.ensures, c.top-top.ensures)) c.args.slots.wide
+
 pub invariant_of-window : goal.invariant_of-window
 invariant_of-window g c =
-    let inv = c.loop-i.invariant in
-    let t = turn (top_of c.args.speeds.listed.now) c.args.slots.work.now c.loop-i.i-iterator.iter.iter.rest.now c.next.new.self.iter.iter.rest.now c.in-Some.slot.now c.args.reach.now c.in-Some.i c.max-need.result c.loop-i.low c.saturating_sub-low.result c.args.slots.width
-    inv.1 c.in-Some.ensures.steps.1.0 (omega (arith, c.in-Some.ensures.steps.1.1, inv.0)) c.requires.reached c.requires.possible inv.2.low_is (omega (arith, c.max-need.ensures)) (omega (arith, c.saturating_sub-low.ensures, c.top-top.ensures)) c.args.slots.wide in
+    let t = turn_at g (goal.at.invariant_of-window g c).After-saturating_sub-low in
     record { high_small = omega (arith, t.high_in); arrived_small = omega (arith, t.arrived_in); need_arrived = omega (arith, t.enough) }
 
 pub fill_row-requires-clause-inside : goal.fill_row-requires-clause-inside
 fill_row-requires-clause-inside g c =
     let inv = c.loop-i.invariant in
-    let t = turn (top_of c.args.speeds.listed.now) c.args.slots.work.now c.loop-i.i-iterator.iter.iter.rest.now c.next.new.self.iter.iter.rest.now c.in-Some.slot.now c.args.reach.now c.in-Some.i c.max-need.result c.loop-i.low c.saturating_sub-low.result c.args.slots.width
-    inv.1 c.in-Some.ensures.steps.1.0 (omega (arith, c.in-Some.ensures.steps.1.1, inv.0)) c.requires.reached c.requires.possible inv.2.low_is (omega (arith, c.max-need.ensures)) (omega (arith, c.saturating_sub-low.ensures, c.top-top.ensures)) c.args.slots.wide in
+    let t = turn_at g (goal.at.fill_row-requires-clause-inside g c).After-saturating_sub-low in
     (omega (arith, t.arrived_in, inv.3), omega (arith, t.high_in, inv.4), simp (length-take, length-drop) (omega (arith, t.high_in, t.wide, t.last, c.loop-i.auto.bytes, c.requires.memory.0)))
 
 pub loop-i-preserved : goal.loop-i-preserved
 loop-i-preserved g c =
     let inv = c.loop-i.invariant in
-    let t = turn (top_of c.args.speeds.listed.now) c.args.slots.work.now c.loop-i.i-iterator.iter.iter.rest.now c.next.new.self.iter.iter.rest.now c.in-Some.slot.now c.args.reach.now c.in-Some.i c.max-need.result c.loop-i.low c.saturating_sub-low.result c.args.slots.width
-    inv.1 c.in-Some.ensures.steps.1.0 (omega (arith, c.in-Some.ensures.steps.1.1, inv.0)) c.requires.reached c.requires.possible inv.2.low_is (omega (arith, c.max-need.ensures)) (omega (arith, c.saturating_sub-low.ensures, c.top-top.ensures)) c.args.slots.wide in
+    let t = turn_at g (goal.at.loop-i-preserved g c).After-saturating_sub-low in
     let q = g.M.Measure.kind in
     let charge = g.T.Tariff.charge c.args.tariff.now in
     let ss = c.args.speeds.listed.now in
