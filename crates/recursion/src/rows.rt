@@ -38,7 +38,8 @@ fn start_row<M: Measure>(
     requires enough { window.need ≤ window.low + speed }
     ensures { (e : ℕ) → window.low ≤ e → e ≤ window.high → best (slice_index picks.new e) (slice_index_or row.new e M.Measure.kind.nought) ≡ offer M.Measure.kind measure window.arrived window.need next.now speed e }
 {
-    // By index, as in the loop below: two slices are written in step, and behind a `zip` of `iter_mut` a proof knows no element.
+    // By index: two slices are written in step, and behind a `zip` of `iter_mut` a proof knows no element. Apart they are no
+    // plainer: `fill` for one and a function for the other, each with a cut that asks for the low to be no more than the high.
     for done in window.low..window.high + 1 {
         let then = (done + speed as usize).min(window.arrived);
         row[done] = with_rest(measure, next, then);
@@ -107,7 +108,8 @@ fn lower_row<M: Measure>(
 // Fills the row of a slot from that of the next one: at each work done of the window the lowest speed that comes to the
 // least, of those that do as much as is needed. Top speed does as much from the low on. The speeds are taken from the top
 // down, each over the whole row.
-// Window, rows and picks are no struct: tried, and its caller cannot tell what the slices hold once the struct is gone.
+// Window, rows and picks are no struct: tried, and the caller's proof did not close, on what the slices hold once the struct
+// is gone.
 pub(crate) fn fill_row<T: Tariff, M: Measure>(
     tariff: &T,
     speeds: LawfulSpeeds,
