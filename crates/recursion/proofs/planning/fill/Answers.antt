@@ -33,7 +33,7 @@ loop-i-init g c =
       omega arith,
     )
 
--- a turn, once what is needed and the low before it are known
+-- where a turn stands, once what its slot needs and its low are known
 turn_at : (g : _) (c : After-saturating_sub-low g)
     → Turn (top_of c.args.speeds.listed.now) c.args.slots.work.now c.next.new.self.iter.iter.rest.now c.in-Some.slot.now c.in-Some.i (length c.loop-i.i-iterator.iter.iter.rest.now) (get_or c.args.reach.now c.in-Some.i 0) c.max-need.result c.loop-i.low c.saturating_sub-low.result c.args.slots.width
 turn_at g c =
