@@ -126,10 +126,10 @@ pub record Turn (top : ℕ) (work rest' : List SlotWork) (w : SlotWork) (i l hig
   pub wide : (i + 1) * width ≡ i * width + width
   pub last : (i + 1) * width ≤ length work * width
 
-pub turn : (top : ℕ) (work rest rest' : List SlotWork) (w : SlotWork) (reach : List ℕ) (i need low low' width : ℕ) → rest ≡ take (length rest) work → rest ≡ rest' ++ (w ∷ []) → i ≡ length rest' →
+pub turn : {top : ℕ} {work rest rest' : List SlotWork} {w : SlotWork} (reach : List ℕ) {i need low low' width : ℕ} → rest ≡ take (length rest) work → rest ≡ rest' ++ (w ∷ []) → i ≡ length rest' →
     ((j : ℕ) → j ≤ length work → get_or reach j 0 ≡ reach_at top work 0 j) → keeps_up top work 0 ≡ true → low ≡ low_for top (drop (length rest) work) → need ≡ max w.due low → low' ≡ need - top → width ≡ most_arrived work + 1 →
     Turn top work rest' w i (length rest) (get_or reach i 0) need low low' width
-turn top work rest rest' w reach i need low low' width first_ones more place reached up low_is needed lowered wide =
+turn {top} {work} {rest} {rest'} {w} reach {i} {need} {low} {low'} {width} first_ones more place reached up low_is needed lowered wide =
     let n = length rest' in
     let size : length rest ≡ n + 1 = ap length more ∙ length_push rest' w in
     let within : length rest ≤ length work = omega (arith, ap length first_ones, length-take (length rest) work) in

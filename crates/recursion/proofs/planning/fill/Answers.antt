@@ -38,8 +38,7 @@ turn_at : (g : _) (c : After-saturating_sub-low g)
     → Turn (top_of c.args.speeds.listed.now) c.args.slots.work.now c.next.new.self.iter.iter.rest.now c.in-Some.slot.now c.in-Some.i (length c.loop-i.i-iterator.iter.iter.rest.now) (get_or c.args.reach.now c.in-Some.i 0) c.max-need.result c.loop-i.low c.saturating_sub-low.result c.args.slots.width
 turn_at g c =
     let inv = c.loop-i.invariant in
-    turn _ _ _ _ _ _ _ _ _ _ _
-    inv.1 c.in-Some.ensures.steps.1.0 (omega (arith, c.in-Some.ensures.steps.1.1, inv.0)) c.requires.reached c.requires.possible inv.2.low_is (omega (arith, c.max-need.ensures)) (omega (arith, c.saturating_sub-low.ensures, c.top-top.ensures)) c.args.slots.wide
+    turn c.args.reach.now inv.1 c.in-Some.ensures.steps.1.0 (omega (arith, c.in-Some.ensures.steps.1.1, inv.0)) c.requires.reached c.requires.possible inv.2.low_is (omega (arith, c.max-need.ensures)) (omega (arith, c.saturating_sub-low.ensures, c.top-top.ensures)) c.args.slots.wide
 
 pub invariant_of-window : goal.invariant_of-window
 invariant_of-window g c =
