@@ -39,7 +39,7 @@ fn start_row<M: Measure>(
     ensures { (e : ℕ) → window.low ≤ e → e ≤ window.high → best (slice_index picks.new e) (slice_index_or row.new e M.Measure.kind.nought) ≡ offer M.Measure.kind measure window.arrived window.need next.now speed e }
 {
     // By index: two slices are written in step, and behind a `zip` of `iter_mut` a proof knows no element. Apart they are no
-    // plainer: `fill` for one, a function for the other, each over a cut that needs low to be at most high + 1, as no loop does.
+    // plainer: `fill` for one, a function for the other, and a cut of each, which needs low ≤ high + 1 where a loop does not.
     for done in window.low..window.high + 1 {
         let then = (done + speed as usize).min(window.arrived);
         row[done] = with_rest(measure, next, then);

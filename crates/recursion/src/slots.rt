@@ -60,8 +60,8 @@ impl<'a> SlotsLeft<'a> {
     pub(crate) fn reach_at_top(self, top: u8) -> Result<[usize; 97], Unplanned>
         ensures { MatchResult result (λ reach. (keeps_up top self.entry.work.now 0 ≡ true) × ((i : ℕ) → i ≤ length self.entry.work.now → slice_index reach i ≡ reach_at top self.entry.work.now 0 i)) (λ e. (e ≡ Late) × (keeps_up top self.entry.work.now 0 ≡ false)) }
     {
-        // A fixed array, since no memory is allocated here; by index, since each place is made
-        // from the one before: behind a `zip` of `iter_mut` a proof knows no element.
+        // A fixed array, since no memory is allocated here; by index, since each place is made from the one before: behind a
+        // `zip` of `iter_mut` a proof knows no element.
         let mut reach = [0usize; 97];
         for (i, slot) in self.work.iter().enumerate() {
             let done = (reach[i] + top as usize).min(slot.arrived as usize);
