@@ -61,12 +61,12 @@ slot_ahead q k (suc n) (suc i) d h =
     let e : suc k + i ≡ k + suc i = omega arith in
     slot_ahead q (suc k) n i d (omega arith) ∙ ap (λ (v : ℕ). record { due = owed q (v + 1); arrived = arrived q v }) e
 
--- the first n of m places, each of which has the slot at that place
-pub all_ahead : (q : List Job) (k n m : ℕ) (out : List SlotWork) → n ≤ m → length out ≡ m → ((i : ℕ) (d : SlotWork) → i < m → get_or out i d ≡ record { due = owed q (k + i + 1); arrived = arrived q (k + i) }) → take n out ≡ work_ahead q k n
+-- the first n of m places, if each of them has the slot at that place
+pub all_ahead : (q : List Job) (k n m : ℕ) (out : List SlotWork) → n ≤ m → length out ≡ m → ((i : ℕ) (d : SlotWork) → i < n → get_or out i d ≡ record { due = owed q (k + i + 1); arrived = arrived q (k + i) }) → take n out ≡ work_ahead q k n
 all_ahead q k n m out le long at =
     let len = length-take-le n out (omega arith) in
     same_lists (take n out) (work_ahead q k n) (len ∙ sym (length_ahead q k n))
-    (λ i d h. let l : i < n = omega arith in get_or-take n out i d l ∙ at i d (omega arith) ∙ sym (slot_ahead q k n i d l))
+    (λ i d h. let l : i < n = omega arith in get_or-take n out i d l ∙ at i d l ∙ sym (slot_ahead q k n i d l))
 
 -- calls of a closure at the numbers from i on, each of which leaves it as it was
 module _ {F B : Type 0} {g : Mut F (ℕ × Unit {0}) B} {f : F} (h : ℕ → B) (called : (i : ℕ) (y : B) (p : F) → Called g f (i, tt) y p → (p ≡ f) × (y ≡ h i)) where

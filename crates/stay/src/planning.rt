@@ -1,5 +1,5 @@
 // Planning the slots left.
-ghost use Rattle.std.specs.Prelude.{◌≡◌, ◌+◌, ◌-◌, ◌≤◌, true, ◌&&◌, length, take, Some, Ok, Err, nat_le, nat_lt};
+ghost use Rattle.std.specs.Prelude.{◌≡◌, ◌+◌, ◌-◌, ◌≤◌, true, ◌&&◌, cond, length, take, Some, Ok, Err, nat_le, nat_lt};
 ghost use Rattle.measure.specs.Kinds.{measure_of};
 ghost use Rattle.measure.specs.Orders.{order_of};
 ghost use Rattle.ledger.specs.Limits.{most_work};
@@ -27,7 +27,7 @@ use tariff::Tariff;
 impl Table<Job> {
     // The work of a slot, as planning is told it: what is due by its end, and what has arrived by it.
     fn slot_work(&self, slot: u8) -> SlotWork
-        requires { (work_of (queue_of self.now) ≤ most_work) × (slot ≤ 191) }
+        requires { (work_of (queue_of self.now) ≤ most_work) × (slot ≤ 95) }
         ensures { result ≡ record { due = owed (queue_of self.now) (slot + 1); arrived = arrived (queue_of self.now) slot } }
     {
         SlotWork {
@@ -36,12 +36,25 @@ impl Table<Job> {
         }
     }
 
-    // The work of the slots ahead, in the first places; what the rest hold is not read. A fixed array: the library has no heap.
+    // The work of the slot at a place of the slots ahead; behind the last of them no sum is made.
+    fn work_at(&self, ahead: SlotsAhead, place: usize) -> SlotWork
+        requires { work_of (queue_of self.now) ≤ most_work }
+        ensures { result ≡ cond (nat_lt place (ahead.slots - ahead.clock)) (record { due = owed (queue_of self.now) (ahead.clock + place + 1); arrived = arrived (queue_of self.now) (ahead.clock + place) }) (record { due = 0; arrived = 0 }) }
+    {
+        if place < (ahead.slots - ahead.clock) as usize {
+            // The cast fits: a stay has at most 96 slots.
+            self.slot_work(ahead.clock + place as u8)
+        } else {
+            SlotWork { due: 0, arrived: 0 }
+        }
+    }
+
+    // The work of the slots ahead, in the first places; the rest are not read. A fixed array: the library has no heap.
     fn work_ahead(&self, ahead: SlotsAhead) -> [SlotWork; 96]
         requires { work_of (queue_of self.now) ≤ most_work }
         ensures { take (ahead.slots - ahead.clock) result ≡ work_ahead (queue_of self.now) ahead.clock (ahead.slots - ahead.clock) }
     {
-        from_fn(|i| self.slot_work(ahead.clock + i as u8))
+        from_fn(|i| self.work_at(ahead, i))
     }
 }
 
