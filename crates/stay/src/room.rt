@@ -1,5 +1,5 @@
 // The test for room.
-ghost use Rattle.std.specs.Prelude.{◌≡◌, ℕ, ◌+◌, ◌-◌, ◌*◌, ◌≤◌, min, List, take, replicate, nat_lt};
+ghost use Rattle.std.specs.Prelude.{◌≡◌, ℕ, ◌+◌, ◌-◌, ◌<◌, min, cond, List, take, replicate, Some, None, nat_le};
 ghost use Rattle.tariff.specs.Checks.{TestIsExact};
 ghost use Rattle.ledger.specs.Queue.{arrived, owed};
 ghost use Rattle.ledger.specs.Ledger.{pump_for, no_charge, keeps_time};
@@ -14,33 +14,27 @@ use ledger::Job;
 impl Table<Job> {
     // The work done after a slot at a speed: no more than has arrived.
     fn done_after(&self, slot: u8, done: u32, speed: u8) -> u32
-        requires { done ≤ 64 * 65535 }
-        ensures work { result ≡ min (done + speed) (arrived (queue_of self.now) slot) }
-        ensures within { result ≤ 64 * 65535 }
+        ensures { result ≡ min (done + speed) (arrived (queue_of self.now) slot) }
     {
-        (done + speed as u32).min(self.arrived(slot))
+        done.saturating_add(speed as u32).min(self.arrived(slot))
     }
 
-    // Whether the work done is less than what is due by a slot.
-    fn is_late(&self, slot: u8, done: u32) -> bool
-        ensures { result ≡ nat_lt done (owed (queue_of self.now) slot) }
+    // The work done after a slot at a speed, unless that is less than what is due by its end.
+    fn in_time_after(&self, slot: u8, done: u32, speed: u8) -> Option<u32>
+        requires { slot < 255 }
+        ensures { result ≡ cond (nat_le (owed (queue_of self.now) (slot + 1)) (min (done + speed) (arrived (queue_of self.now) slot))) (Some (min (done + speed) (arrived (queue_of self.now) slot))) None }
     {
-        done < self.owed(slot)
+        let done = self.done_after(slot, done, speed);
+        (self.owed(slot + 1) <= done).then_some(done)
     }
 
     // Whether one speed in every slot ahead is in time, whatever speeds are listed.
     fn keeps_time(&self, ahead: SlotsAhead, speed: u8) -> bool
         ensures { (listed : List ℕ) → result ≡ keeps_time (pump_for listed (queue_of self.now) no_charge) ahead.clock 0 (replicate (ahead.slots - ahead.clock) speed) }
     {
-        // A loop: of what a closure changes a proof knows nothing.
-        let mut done = 0u32;
-        for k in ahead.clock..ahead.slots {
-            done = self.done_after(k, done, speed);
-            if self.is_late(k + 1, done) {
-                return false;
-            }
-        }
-        true
+        (ahead.clock..ahead.slots)
+            .try_fold(0, |done, slot| self.in_time_after(slot, done, speed))
+            .is_some()
     }
 
     /// Whether some sequence of listed speeds is in time for the open jobs, in the slots ahead.
