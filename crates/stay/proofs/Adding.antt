@@ -1,12 +1,11 @@
 -- Sums of numbers, as a chain adds them up.
 use Rattle.std.proofs.Common.{◌≡◌, ℕ, suc, ◌+◌, ◌*◌, ◌<◌, ◌≤◌, Bool, true, false, cond, List, [], ◌∷◌, length, map, filter, Some, Option, sym, refl, ap, ◌∙◌, subst, arith, mul-le-mul_right, length-take}
-use Rattle.std.specs.Bool.{⊤}
-use Rattle.std.specs.Iterator.{Yields, Drains}
+use Rattle.std.specs.Iterator.{Yields}
 use Rattle.std.specs.Iterator.Runs.{EachRunFrom}
 use Rattle.std.specs.List.{fold, sum, sum_by}
 use Rattle.std.proofs.iter.runs.Made.{took}
 use Rattle.std.proofs.lemmas.Iterator.{YieldsList}
-use Rattle.std.proofs.lemmas.Iterator.Consumers.{YieldsList-so_far, sum_from_yields_List}
+use Rattle.std.proofs.lemmas.Iterator.Consumers.{YieldsList-so_far}
 use Rattle.std.proofs.lemmas.List.{length-map}
 use Rattle.std.proofs.lemmas.List.Sums.{sum_by-cons, sum-map, length-filter, count_by-le-length}
 use Rattle.std.proofs.lemmas.List.Recursion.{is_sum_by}
@@ -31,11 +30,6 @@ module _ {S : Type 0} (steps : S → Option ℕ → S → Type 0) (m : ℕ) (sma
     sum_fits top low p _ is =
         let y = took p in
         omega (arith, within p.items y.0 (subst (λ (v : S). Yields steps v p.items y.0) is y.1))
-
-    pub summed : (r : ℕ) → (xs : List ℕ) × (⊤ → Drains steps s xs) × (r ≡ fold (λ a x. a + x) 0 xs) → (r ≡ sum all) × (r ≤ n * m)
-    summed r ran =
-        let d = ran.1 tt in
-        (sum_from_yields_List s r ran road, omega (arith, ran.2, within ran.0 d.1.0 d.1.1))
 
 -- what is left of the jobs that pass a test
 left_where : (p : Job → Bool) (q : List Job) → sum_by (λ j. j.left) (filter p q) ≡ sum_by (λ j. cond (p j) j.left 0) q

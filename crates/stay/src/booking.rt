@@ -21,7 +21,7 @@ impl Table<Job> {
         ensures told { result ≡ (nat_le most_jobs (length (queue_of self.now)) || nat_lt most_work (work_of (queue_of self.now) + units)) }
         ensures room { result ≡ false → self.now.count < 64 }
     {
-        self.open().len() >= MOST_JOBS || self.work_left() + units as u32 > MOST_WORK
+        self.open().len() >= MOST_JOBS || self.work_left().saturating_add(units as u32) > MOST_WORK
     }
 }
 

@@ -1,5 +1,5 @@
 // The open jobs of a table.
-ghost use Rattle.std.specs.Prelude.{◌≡◌, ℕ, ◌+◌, ◌-◌, ◌*◌, ◌<◌, ◌≤◌, [], is_some, Some};
+ghost use Rattle.std.specs.Prelude.{◌≡◌, ℕ, ◌+◌, ◌-◌, ◌<◌, [], is_some, Some};
 ghost use Rattle.ledger.specs.Queue.{enter, strike, work};
 ghost use Rattle.ledger.specs.Ledger.{is_open};
 ghost use Rattle.stay.specs.Jobs.{queue_of, PlaceOf, without};
@@ -26,8 +26,7 @@ impl Table<Job> {
 
     /// The units left of all open jobs.
     pub(crate) fn work_left(&self) -> u32
-        ensures sum { result ≡ work (queue_of self.now) }
-        ensures within { result ≤ 64 * 65535 }
+        ensures { result ≡ work (queue_of self.now) }
     {
         self.open().iter().map(|job| job.left as u32).sum()
     }

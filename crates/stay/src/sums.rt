@@ -1,5 +1,5 @@
 // The work sums of a table.
-ghost use Rattle.std.specs.Prelude.{◌≡◌, ◌*◌, ◌≤◌};
+ghost use Rattle.std.specs.Prelude.{◌≡◌};
 ghost use Rattle.ledger.specs.Queue.{arrived, owed};
 ghost use Rattle.stay.specs.Jobs.{queue_of};
 
@@ -10,8 +10,7 @@ use ledger::Job;
 impl Table<Job> {
     /// The due work of a slot: what is left of the open jobs due by it.
     pub(crate) fn owed(&self, slot: u8) -> u32
-        ensures sum { result ≡ owed (queue_of self.now) slot }
-        ensures within { result ≤ 64 * 65535 }
+        ensures { result ≡ owed (queue_of self.now) slot }
     {
         self.open()
             .iter()
@@ -22,8 +21,7 @@ impl Table<Job> {
 
     /// The arrived work of a slot: what is left of the open jobs released by it.
     pub(crate) fn arrived(&self, slot: u8) -> u32
-        ensures sum { result ≡ arrived (queue_of self.now) slot }
-        ensures within { result ≤ 64 * 65535 }
+        ensures { result ≡ arrived (queue_of self.now) slot }
     {
         self.open()
             .iter()
