@@ -91,6 +91,7 @@ impl Stay {
             return Err(Refusal::NotInTime);
         }
         self.take_jobs(table);
+        // The cast fits: there are at most 64 jobs.
         Ok(table.count as u8)
     }
 }

@@ -28,6 +28,7 @@ impl Stay {
             return Err(Refusal::SlotCount);
         }
         let listed = SpeedList::from_slice(speeds).ok_or(Refusal::SpeedList)?;
+        // The cast fits: a stay has at most 96 slots.
         *self = Stay::opened(slots as u8, listed);
         Ok(())
     }

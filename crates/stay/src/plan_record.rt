@@ -2,7 +2,7 @@
 ghost use Rattle.std.specs.Prelude.{◌≡◌, replicate};
 
 /// A standing plan: its mark, and a speed for each slot.
-// A fixed array: the library has no heap.
+// A fixed array: the library takes no memory and stands on `std` alone, so neither `Vec` nor `arrayvec`.
 #[derive(Clone, Copy)]
 pub(crate) struct PlanRecord {
     pub(crate) mark: u8,

@@ -30,6 +30,7 @@ impl Table<Job> {
         requires { (work_of (queue_of self.now) ≤ most_work) × (slot ≤ 95) }
         ensures { result ≡ record { due = owed (queue_of self.now) (slot + 1); arrived = arrived (queue_of self.now) slot } }
     {
+        // The casts fit: no sum is above the open work, which is at most 600.
         SlotWork {
             due: self.owed(slot + 1) as u16,
             arrived: self.arrived(slot) as u16,

@@ -47,7 +47,7 @@ impl Table<Job> {
     {
         let mut t = *self;
         let mut rest = speed as u16;
-        // By index: after a loop over `iter_mut` a proof knows none of the elements.
+        // By index: one job at a time is lent, through `job_mut`, as everywhere in this library.
         for i in 0..self.count {
             let by = share_of(t.jobs[i], slot, rest);
             t.job_mut(i).left -= by;
@@ -64,7 +64,7 @@ impl Table<Job> {
         ensures queue { queue_of result ≡ unfinished (queue_of self.now) }
         ensures count { result.count ≤ self.now.count }
     {
-        // By place: the jobs that stay close up.
+        // By place: a job's new place is not where it stood, and no iterator form is plainer.
         let mut jobs = self.jobs;
         let mut count = 0;
         for job in self.open() {
@@ -87,6 +87,7 @@ impl Table<Job> {
         Outcome {
             table: tidy,
             units: low.units,
+            // The cast fits: there are at most 64 jobs.
             finished: (self.count - tidy.count) as u8,
         }
     }

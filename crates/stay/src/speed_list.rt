@@ -6,7 +6,7 @@ use crate::speeds::as_bytes;
 use recursion::lawful;
 
 /// A lawful list of speeds, in the first `count` places: two to sixteen, from 0 on, each above the one before, none above 15.
-// A fixed array: the library has no heap.
+// A fixed array with a count, for the table's reason; no list type is shared with the table, since the facts here are of speeds.
 #[derive(Clone, Copy)]
 pub struct SpeedList {
     pub(crate) speeds: [u8; 16],

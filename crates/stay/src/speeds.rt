@@ -11,7 +11,7 @@ pub(crate) fn as_bytes(list: &[u32]) -> Option<[u8; 16]>
     if list.len() > 16 {
         return None;
     }
-    // A fixed array, since the library has no heap; by index, since behind `iter_mut` a proof knows none of its elements.
+    // A fixed array, by index: the list may be shorter, and behind `take` on `iter_mut` a proof knows no element.
     let mut speeds = [0u8; 16];
     for (i, speed) in list.iter().enumerate() {
         speeds[i] = u8::try_from(*speed).ok()?;

@@ -6,7 +6,7 @@ ghost use Rattle.stay.specs.Jobs.{queue_of};
 use crate::table::Table;
 use ledger::Job;
 
-// Two chains: one function that takes their test would be longer than both.
+// Three chains with `work_left`: a function that takes the test would need a contract on any test, longer than all three.
 impl Table<Job> {
     /// The due work of a slot: what is left of the open jobs due by it.
     pub(crate) fn owed(&self, slot: u8) -> u32

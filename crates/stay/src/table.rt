@@ -5,7 +5,7 @@ ghost use Rattle.std.specs.Borrow.{sem, follows};
 use std::alloc::AllocError;
 
 /// Up to 64 jobs: those in the first `count` places.
-// A fixed array: the library has no heap.
+// A fixed array with a count: the library takes no memory and stands on `std` alone, so neither `Vec` nor `arrayvec`.
 #[derive(Copy)]
 pub(crate) struct Table<T> {
     pub(crate) jobs: [T; 64],

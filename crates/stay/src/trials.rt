@@ -71,7 +71,8 @@ fn after(rt: &impl Abort, calls: &[Ask]) -> Stay {
     stay
 }
 
-// Whether two stays have the same slots and speeds and answer every question alike.
+// Whether two stays have the same slots and speeds and answer every question alike. Not `==`: what stands past
+// the last job is no part of what a stay tells.
 fn alike(a: &Stay, b: &Stay) -> bool {
     (0..64).all(|place| a.job_at(place) == b.job_at(place))
         && (0..97).all(|slot| a.speed_at(slot) == b.speed_at(slot))
