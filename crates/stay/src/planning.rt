@@ -1,10 +1,10 @@
 // Planning the slots left.
-ghost use Rattle.std.specs.Prelude.{◌≡◌, ◌+◌, ◌-◌, ◌≤◌, true, ◌&&◌, cond, length, take, Some, Ok, Err, nat_le, nat_lt};
+ghost use Rattle.std.specs.Prelude.{◌≡◌, ◌+◌, ◌-◌, ◌≤◌, true, cond, length, take, Some, Ok, Err, nat_lt};
 ghost use Rattle.measure.specs.Kinds.{measure_of};
 ghost use Rattle.measure.specs.Orders.{order_of};
 ghost use Rattle.ledger.specs.Limits.{most_work};
 ghost use Rattle.ledger.specs.Queue.{arrived, owed, work as work_of};
-ghost use Rattle.ledger.specs.Ledger.{planning as planning_call, slots_left, plan_for, charges_of, refusal, unless_refused, with_plan};
+ghost use Rattle.ledger.specs.Ledger.{planning as planning_call, plan_for, charges_of, refusal, unless_refused, with_plan};
 ghost use Rattle.ledger.specs.Answers.{planned};
 ghost use Rattle.ledger.specs.SoundTest.{sound as is_sound};
 ghost use Rattle.stay.specs.Calls.{Follows, PlansOwn, MeasureIs, Kept, Lent, answer_of};
@@ -42,7 +42,7 @@ impl Table<Job> {
         requires { work_of (queue_of self.now) ≤ most_work }
         ensures { result ≡ cond (nat_lt place (ahead.slots - ahead.clock)) (record { due = owed (queue_of self.now) (ahead.clock + place + 1); arrived = arrived (queue_of self.now) (ahead.clock + place) }) (record { due = 0; arrived = 0 }) }
     {
-        if place < (ahead.slots - ahead.clock) as usize {
+        if place < ahead.left() as usize {
             // The cast fits: a stay has at most 96 slots.
             self.slot_work(ahead.clock + place as u8)
         } else {
@@ -71,20 +71,6 @@ impl Stay {
         }
     }
 
-    // How many slots are still to be run.
-    fn slots_left(&self) -> u8
-        ensures { result ≡ slots_left (contents self.now) }
-    {
-        self.slots - self.clock
-    }
-
-    /// Whether a slot is still to be run.
-    pub(crate) fn is_ahead(&self, slot: u32) -> bool
-        ensures { result ≡ (nat_le self.now.clock slot && nat_lt slot self.now.slots) }
-    {
-        (self.clock as u32..self.slots as u32).contains(&slot)
-    }
-
     // Makes a plan the standing one.
     fn take_plan(&mut self, plan: PlanRecord)
         requires { is_sound (with_plan (standing_of self.old.slots self.old.clock (Some plan)) (contents self.old)) ≡ true }
@@ -106,10 +92,11 @@ impl Stay {
         ensures bytes { Lent result bytes.old bytes.new }
         ensures measures { Lent result measures.old measures.new }
     {
-        let left = self.slots_left() as usize;
+        let ahead = self.ahead();
+        let left = ahead.left() as usize;
         let first = self.clock as usize;
         let end = self.slots as usize;
-        let work = self.table.work_ahead(self.ahead());
+        let work = self.table.work_ahead(ahead);
         // On a stay only short memory can refuse a plan.
         plan(
             tariff,
@@ -142,6 +129,6 @@ impl Stay {
         let mut best = PlanRecord::blank(M::MARK);
         let measure = self.best_speeds(tariff, bytes, measures, &mut best.speeds)?;
         self.take_plan(best);
-        Ok((self.slots_left(), measure))
+        Ok((self.ahead().left(), measure))
     }
 }

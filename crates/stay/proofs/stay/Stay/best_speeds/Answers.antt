@@ -19,8 +19,8 @@ returns g c =
     let t = charges_by g.T.Tariff.charge g.T.Tariff.bounded c.args.tariff.now in
     let laws = g.M.Measure.laws in
     let r = c.plan.result in
-    let told = rw (c.ahead.ensures.slots, c.ahead.ensures.clock) at c.work_ahead-work.ensures in
-    let ws = ap (λ (v : ℕ). take v c.work_ahead-work.result) c.slots_left-left.ensures ∙ told in
+    let told = rw (c.ahead-ahead.ensures.slots, c.ahead-ahead.ensures.clock) at c.work_ahead-work.ensures in
+    let ws = ap (λ (v : ℕ). take v c.work_ahead-work.result) (rw (c.ahead-ahead.ensures.slots, c.ahead-ahead.ensures.clock) at c.left-left.ensures) ∙ told in
     let n : length c.args.speeds.now ≡ 96 = search rules in
     let short = told_short r c.map_err.result c.map_err.ensures.cases (λ u e h. search rules) in
     record {

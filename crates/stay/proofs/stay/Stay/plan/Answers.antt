@@ -36,7 +36,7 @@ pub take_plan-requires : goal.take_plan-requires
 take_plan-requires g c = (taken g (goal.at.take_plan-requires g c).In_ok-measure).sound_then
 
 pub returns-clause-follows : goal.returns-clause-follows
-returns-clause-follows g c = rw (c.slots_left.ensures ∙ ap slots_left c.take_plan.ensures, c.take_plan.ensures) (taken g (goal.at.returns-clause-follows g c).In_ok-measure).follows
+returns-clause-follows g c = rw ((rw (c.ahead.ensures.slots, c.ahead.ensures.clock) at c.left.ensures) ∙ ap slots_left c.take_plan.ensures, c.take_plan.ensures) (taken g (goal.at.returns-clause-follows g c).In_ok-measure).follows
 
 pub returns-clause-own : goal.returns-clause-own
 returns-clause-own g c = rw c.take_plan.ensures (taken g (goal.at.returns-clause-own g c).In_ok-measure).own
