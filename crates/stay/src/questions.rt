@@ -26,7 +26,9 @@ impl Stay {
         ensures { result ≡ speed_at (contents self.now) slot }
     {
         let plan = self.plan?;
-        self.ahead().contains(slot).then(|| plan.speeds[slot as usize])
+        self.ahead()
+            .contains(slot)
+            .then(|| plan.speeds[slot as usize])
     }
 
     /// The mark of the standing plan.
