@@ -4,6 +4,7 @@ ghost use Rattle.ledger.specs.Queue.{enter, strike, work};
 ghost use Rattle.ledger.specs.Ledger.{is_open};
 ghost use Rattle.stay.specs.Jobs.{queue_of, PlaceOf, without};
 
+use crate::limits::MOST_JOBS;
 use crate::table::Table;
 use ledger::Job;
 
@@ -19,7 +20,7 @@ impl Table<Job> {
             left: 0,
         };
         Table {
-            jobs: [blank; 64],
+            jobs: [blank; MOST_JOBS],
             count: 0,
         }
     }

@@ -2,13 +2,14 @@
 ghost use Rattle.std.specs.Prelude.{◌≡◌, ◌<◌, ◌≤◌, ⊤, take, slice_index_or, slice_set};
 ghost use Rattle.std.specs.Borrow.{sem, follows};
 
+use crate::limits::MOST_JOBS;
 use std::alloc::AllocError;
 
 /// Up to 64 jobs: those in the first `count` places.
 // A fixed array with a count: the library takes no memory and stands on `std` alone, so neither `Vec` nor `arrayvec`.
 #[derive(Copy)]
 pub(crate) struct Table<T> {
-    pub(crate) jobs: [T; 64],
+    pub(crate) jobs: [T; MOST_JOBS],
     pub(crate) count: usize,
     ghost few: { count ≤ 64 },
 }
