@@ -1,5 +1,5 @@
 // The limits of a stay.
-pub(crate) const MOST_SLOTS: u32 = 96;
+pub(crate) const MOST_SLOTS: usize = 96;
 
 pub(crate) const MOST_JOBS: usize = 64;
 /// Units, of one job and of all open ones.

@@ -15,7 +15,7 @@ use ledger::Refusal;
 fn is_no_slot_count(slots: u32) -> bool
     ensures { result ≡ (slots == 0 || nat_lt most_slots slots) }
 {
-    slots == 0 || slots > MOST_SLOTS
+    slots == 0 || slots as usize > MOST_SLOTS
 }
 
 impl Stay {

@@ -1,12 +1,14 @@
 // The plan record of a stay.
 ghost use Rattle.std.specs.Prelude.{◌≡◌, replicate};
 
+use crate::limits::MOST_SLOTS;
+
 /// A standing plan: its mark, and a speed for each slot.
 // A fixed array: the library takes no memory and stands on `std` alone, so neither `Vec` nor `arrayvec`.
 #[derive(Clone, Copy)]
 pub(crate) struct PlanRecord {
     pub(crate) mark: u8,
-    pub(crate) speeds: [u8; 96],
+    pub(crate) speeds: [u8; MOST_SLOTS],
 }
 
 impl PlanRecord {
@@ -16,7 +18,7 @@ impl PlanRecord {
     {
         PlanRecord {
             mark,
-            speeds: [0; 96],
+            speeds: [0; MOST_SLOTS],
         }
     }
 }

@@ -14,6 +14,7 @@ ghost use Rattle.stay.specs.Jobs.{queue_of};
 ghost use Rattle.stay.specs.Tariffs.{charges_by};
 ghost use Rattle.stay.specs.Works.{work_ahead, Placed};
 
+use crate::limits::MOST_SLOTS;
 use crate::plan_record::PlanRecord;
 use crate::slots_ahead::SlotsAhead;
 use crate::stay::Stay;
@@ -51,7 +52,7 @@ impl Table<Job> {
     }
 
     // The work of the slots ahead, in the first places; the rest are not read. A fixed array: the library has no heap.
-    fn work_ahead(&self, ahead: SlotsAhead) -> [SlotWork; 96]
+    fn work_ahead(&self, ahead: SlotsAhead) -> [SlotWork; MOST_SLOTS]
         requires { work_of (queue_of self.now) ≤ most_work }
         ensures { take (ahead.slots - ahead.clock) result ≡ work_ahead (queue_of self.now) ahead.clock (ahead.slots - ahead.clock) }
     {
@@ -85,7 +86,7 @@ impl Stay {
         tariff: &T,
         bytes: &mut [u8],
         measures: &mut [M],
-        speeds: &mut [u8; 96],
+        speeds: &mut [u8; MOST_SLOTS],
     ) -> Result<M, Refusal>
         ensures answer { let t = charges_by T.Tariff.charge T.Tariff.bounded tariff.now in let best = plan_for (contents self.now) t (order_of M.Measure.laws) in result ≡ unless_refused (refusal (contents self.now) (planning_call t (order_of M.Measure.laws) M.Measure.MARK (length bytes.old) (length measures.old))) Err (Ok (measure_of M.Measure.kind (charges_of (contents self.now) t best))) }
         ensures speeds { let t = charges_by T.Tariff.charge T.Tariff.bounded tariff.now in let best = plan_for (contents self.now) t (order_of M.Measure.laws) in Placed result self.now.clock self.now.slots best speeds.old speeds.new }
