@@ -33,8 +33,8 @@ impl Table<Job> {
     {
         // The casts fit: no sum is above the open work, which is at most 600.
         SlotWork {
-            due: self.owed(slot + 1) as u16,
-            arrived: self.arrived(slot) as u16,
+            due: self.work_sums(slot + 1).0 as u16,
+            arrived: self.work_sums(slot).1 as u16,
         }
     }
 

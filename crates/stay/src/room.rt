@@ -16,7 +16,8 @@ impl Table<Job> {
     fn done_after(&self, slot: u8, done: u32, speed: u8) -> u32
         ensures { result ≡ min (done + speed) (arrived (queue_of self.now) slot) }
     {
-        done.saturating_add(speed as u32).min(self.arrived(slot))
+        done.saturating_add(speed as u32)
+            .min(self.work_sums(slot).1)
     }
 
     // The work done after a slot at a speed, unless that is less than what is due by its end.
@@ -25,7 +26,7 @@ impl Table<Job> {
         ensures { result ≡ cond (nat_le (owed (queue_of self.now) (slot + 1)) (min (done + speed) (arrived (queue_of self.now) slot))) (Some (min (done + speed) (arrived (queue_of self.now) slot))) None }
     {
         let done = self.done_after(slot, done, speed);
-        (self.owed(slot + 1) <= done).then_some(done)
+        (self.work_sums(slot + 1).0 <= done).then_some(done)
     }
 
     // Whether one speed in every slot ahead is in time, whatever speeds are listed.

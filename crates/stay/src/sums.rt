@@ -8,8 +8,15 @@ use ledger::Job;
 
 // Three chains with `work_left`: a function that takes the test would need a contract on any test, longer than all three.
 impl Table<Job> {
-    /// The due work of a slot: what is left of the open jobs due by it.
-    pub(crate) fn owed(&self, slot: u8) -> u32
+    /// The work sums of a slot: its due work and its arrived work. This one part answers both, in this order.
+    pub(crate) fn work_sums(&self, slot: u8) -> (u32, u32)
+        ensures { result ≡ (owed (queue_of self.now) slot, arrived (queue_of self.now) slot) }
+    {
+        (self.owed(slot), self.arrived(slot))
+    }
+
+    // The due work of a slot: what is left of the open jobs due by it.
+    fn owed(&self, slot: u8) -> u32
         ensures { result ≡ owed (queue_of self.now) slot }
     {
         self.open()
@@ -19,8 +26,8 @@ impl Table<Job> {
             .sum()
     }
 
-    /// The arrived work of a slot: what is left of the open jobs released by it.
-    pub(crate) fn arrived(&self, slot: u8) -> u32
+    // The arrived work of a slot: what is left of the open jobs released by it.
+    fn arrived(&self, slot: u8) -> u32
         ensures { result ≡ arrived (queue_of self.now) slot }
     {
         self.open()

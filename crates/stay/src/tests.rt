@@ -59,8 +59,7 @@ fn jobs_stand_in_queue_order(rt: HostRuntime) {
     assert_eq!(rt; table.find(6), None);
     let less = table.struck(1).jobs;
     assert_eq!(rt; less[1].number, 8);
-    assert_eq!(rt; table.owed(2), 3);
-    assert_eq!(rt; table.arrived(2), 10);
+    assert_eq!(rt; table.work_sums(2), (3, 10));
 }
 
 #[test]
