@@ -95,7 +95,7 @@ impl Line<'_> {
     {
         let mut numbers = [0; N];
         let mut column = 1;
-        // By index: behind a loop over `iter_mut` a proof knows the array's length, and none of its elements.
+        // By index: one of the two lists has to go so, since behind a `zip` a proof knows no element of the array.
         for (i, width) in widths.iter().enumerate() {
             numbers[i] = self.field(column, *width)?;
             column += *width;

@@ -21,7 +21,7 @@ fn put_digits(bytes: &mut [u8], value: u64)
     ensures { bytes.new ≡ decimal value }
 {
     let mut rest = value;
-    // By index: `write!` into a slice, and a loop over `iter_mut`, tell a proof nothing of the bytes.
+    // By index: behind `iter_mut().rev()`, as behind `write!` into a slice, a proof knows none of the bytes.
     for k in (0..bytes.len()).rev() {
         bytes[k] = b'0' + (rest % 10) as u8;
         rest /= 10;

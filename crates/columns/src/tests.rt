@@ -6,6 +6,7 @@ use crate::lines::Reader;
 use std::process::Abort;
 use std::test::Fail;
 
+// The table says a refusal as it is told: by number, line and column.
 type Answer = Result<[u32; 2], (u32, usize, usize)>;
 
 fn told(fault: LineFault) -> (u32, usize, usize) {

@@ -40,6 +40,7 @@ impl SpeedList {
     }
 
     /// The fastest speed.
+    // One line here, where the list is owned, as where one is lent to planning.
     pub fn top(&self) -> u8
         ensures { result ≡ top_of (take self.now.count self.now.speeds) }
     {
