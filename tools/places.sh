@@ -16,5 +16,5 @@ count '2 functions and types that have a twin' 'fn (rises|lawful|is_lawful|blank
 count '3 loops by index, and searches in a loop' '^ *(while |loop \{|for .* in .*(\.\.|\.enumerate\(\)))'
 count '4 conversions, orders and choices written out' '^impl.* (From|PartialEq|Ord|PartialOrd|Display)\b|(Ok|Some)\([a-z]+\) => (Ok|Some)\(|Err\(_\) => Err|\.[a-z]+ != [a-z]+\.|\.due == [a-z]+\.due|^ *None$|^ *other$'
 count '5 clauses that say again a fact of a value' 'requires.*(count ≤ 64|window\.|speeds\.now ≤ 16|slots ≤ 96)'
-count '6 arrays' '\[[A-Za-z0-9_]+; [0-9A-Z]+\]' '/(tests|trials)\.rt|const N|main\.rt:(1[2-9][0-9]|2[0-9][0-9])'
+count '6 arrays' '\[[A-Za-z0-9_]+; [0-9A-Z_]+\]' '/(tests|trials)\.rt|const N|main\.rt:(1[2-9][0-9]|2[0-9][0-9])'
 count '7 switches on which step to run' 'dyn |if in_odd'
