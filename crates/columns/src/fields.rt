@@ -7,6 +7,7 @@ use crate::faults::{FieldFault, LineFault};
 use crate::lines::Line;
 
 /// How many blanks stand in front.
+// One expression, as `line_length` is.
 fn blanks(bytes: &[u8]) -> usize
     ensures inside { result ≤ length bytes.now }
     ensures behind { drop result bytes.now ≡ after_blanks bytes.now }

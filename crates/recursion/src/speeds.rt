@@ -44,7 +44,7 @@ impl<'a> TryFrom<&'a [u8]> for LawfulSpeeds<'a> {
 }
 
 impl<'a> LawfulSpeeds<'a> {
-    // The fastest speed.
+    // The fastest speed: one line here, where the list is lent, as where one is owned.
     pub(crate) fn top(self) -> u8
         ensures { result ≡ top_of self.entry.listed.now }
     {

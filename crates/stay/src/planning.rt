@@ -80,7 +80,8 @@ impl Stay {
         self.plan = Some(plan);
     }
 
-    // Puts the best speeds of the slots left into the places of these slots, and answers their measure.
+    // Puts the best speeds of the slots left into the places of these slots, and answers their measure. The two memories stay
+    // apart, as the caller lends them.
     fn best_speeds<T: Tariff, M: Measure>(
         &self,
         tariff: &T,

@@ -47,7 +47,7 @@ impl Table<Job> {
     {
         let mut t = *self;
         let mut rest = speed as u16;
-        // By index: one job at a time is lent, through `job_mut`, as everywhere in this library.
+        // By place: a job is lowered through the loan of `job_mut`, which is a rule of the project.
         for i in 0..self.count {
             let by = share_of(t.jobs[i], slot, rest);
             t.job_mut(i).left -= by;

@@ -19,7 +19,7 @@ impl Stay {
         let plan = self.plan.ok_or(Refusal::NotPlanned)?;
         let speed = plan.speeds[self.clock as usize];
         let outcome = self.table.pump(self.clock, speed);
-        // Written whole, once the copy of the table is pumped; field by field, since `..` is refused for a struct with a ghost field.
+        // Written whole, so that clock and jobs change at once; field by field, since `..` is refused beside a ghost field.
         *self = Stay {
             slots: self.slots,
             speeds: self.speeds,

@@ -18,6 +18,7 @@ pub struct SpeedList {
 
 impl SpeedList {
     /// The list as a speed list, if it keeps the rules.
+    // Public by this name: a `TryFrom` beside it would be a second way.
     pub fn from_slice(list: &[u32]) -> Option<SpeedList>
         ensures made { is_some result ≡ lawful_speeds list.now }
         ensures same { elim result [ Some s ↦ take s.count s.speeds ≡ list.now | None ↦ Unit {0} ] }

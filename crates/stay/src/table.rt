@@ -14,7 +14,7 @@ pub(crate) struct Table<T> {
     ghost few: { count ≤ 64 },
 }
 
-// Not derived: a generic struct with a ghost field has no derived `Clone`.
+// Not derived: a struct that is generic in a type and has a ghost field has no derived `Clone`.
 impl<T: Copy> Clone for Table<T> {
     ghost is_clone = { λ table copy. copy ≡ table };
 

@@ -14,6 +14,7 @@ fn within(numbers: &[u32], bound: u32) -> bool
 
 impl<const N: usize, const BOUND: u32> Bounded<N, BOUND> {
     /// The numbers, refused if one passes the bound.
+    // Public by this name: a `TryFrom` beside it would be a second way.
     pub fn checked(values: [u32; N]) -> Result<Self, TariffRefusal>
         ensures { told values_of result ≡ unless_past (all_within BOUND values.entry) values.entry }
     {

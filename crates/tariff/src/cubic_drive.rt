@@ -8,6 +8,7 @@ use super::{Coefficients, Tariff, TariffRefusal};
 
 impl Coefficients {
     /// The coefficients, refused if base passes 100,000, linear 10,000 or cube 200.
+    // Public by this name: a `TryFrom` beside it would be a second way.
     pub fn checked(base: u32, linear: u32, cube: u32) -> Result<Self, TariffRefusal>
         ensures { told coefficients_of result ≡ unless_past (coefficients_within base linear cube) (base, linear, cube) }
     {
