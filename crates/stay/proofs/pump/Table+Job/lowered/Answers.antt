@@ -1,7 +1,7 @@
-use Rattle.std.proofs.Common.{◌∙◌, arith, length-set, length-take-le}
+use Rattle.std.proofs.Common.{◌∙◌, arith, length-set}
 use Rattle.ledger.specs.Queue.{lower, pumped, units_pumped}
 use Rattle.stay.specs.Jobs.{blank, queue_of}
-use Rattle.stay.proofs.Pumping.{lowered_place, lowered_all}
+use Rattle.stay.proofs.Pumping.{lowered_place}
 use Rattle.stay.proofs.pump.Table+Job.lowered.Goals as goal
 
 pub loop-i-preserved : goal.loop-i-preserved
@@ -18,14 +18,3 @@ loop-i-preserved c =
       inv.1,
       lowered_place k s (pumped k s q) (units_pumped k s q) t.jobs t.count i c.loop-i.rest x by (omega arith) (omega arith) (c.job_mut.ensures.value blank) c.share_of-by.ensures inv.2,
     )
-
-pub returns : goal.returns
-returns c =
-    let t = c.loop-i.t in
-    let k = c.args.slot in
-    let s = c.args.speed in
-    let q = queue_of c.args.self.now in
-    let inv = c.loop-i.invariant in
-    let len = length-take-le t.count t.jobs (omega arith) in
-    let all = lowered_all k s (pumped k s q) (units_pumped k s q) (queue_of t) c.loop-i.i c.loop-i.rest (omega arith) inv.2 in
-    record { queue = all.0; count = inv.1; units = all.1 }
