@@ -16,7 +16,8 @@ use crate::table::Table;
 use ledger::{Job, Refusal};
 
 impl Table<Job> {
-    // Whether a job of so many units would be one too many, or too much work.
+    // Whether a job of so many units would be one too many, or too much work. That there is a place left is told and asked
+    // by clauses, since it is not true of every table.
     fn is_full(&self, units: u16) -> bool
         ensures told { result ≡ (nat_le most_jobs (length (queue_of self.now)) || nat_lt most_work (work_of (queue_of self.now) + units)) }
         ensures room { result ≡ false → self.now.count < 64 }
@@ -73,6 +74,7 @@ impl Stay {
     }
 
     /// Books a job, and answers how many jobs are open with it.
+    // The four numbers stay apart, as the caller has them: a job is made once they are checked.
     pub(crate) fn book(
         &mut self,
         number: u32,

@@ -26,7 +26,8 @@ use std::array::from_fn;
 use tariff::Tariff;
 
 impl Table<Job> {
-    // The work of a slot, as planning is told it: what is due by its end, and what has arrived by it.
+    // The work of a slot, as planning is told it: what is due by its end, and what has arrived by it. That the open work is
+    // at most 600 is asked here, since it is true of a stay's table and not of every table.
     fn slot_work(&self, slot: u8) -> SlotWork
         requires { (work_of (queue_of self.now) ≤ most_work) × (slot ≤ 95) }
         ensures { result ≡ record { due = owed (queue_of self.now) (slot + 1); arrived = arrived (queue_of self.now) slot } }

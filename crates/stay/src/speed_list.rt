@@ -7,6 +7,7 @@ use recursion::lawful;
 
 /// A lawful list of speeds, in the first `count` places: two to sixteen, from 0 on, each above the one before, none above 15.
 // A fixed array with a count, for the table's reason; no list type is shared with the table, since the facts here are of speeds.
+// Clauses say its list as `take count speeds`: a definition would only be one more name.
 #[derive(Clone, Copy)]
 pub struct SpeedList {
     pub(crate) speeds: [u8; 16],
