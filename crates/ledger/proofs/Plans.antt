@@ -27,7 +27,7 @@ lists_measure f (c ∷ cs) = ap (λ v. c ∷ v) (lists_measure f cs)
 
 -- a sequence under other charges
 pub sequence_under : (speeds : List ℕ) (charge charge' : ℕ → ℕ → ℕ) (q : List Job) (n k : ℕ) (ss : List ℕ) → InTimeSequence (pump_for speeds q charge) n k 0 ss → InTimeSequence (pump_for speeds q charge') n k 0 ss
-sequence_under speeds charge charge' q n k ss w = record { each_slot = w.each_slot; listed = w.listed; in_time = recharged speeds charge charge' q k 0 ss w.in_time }
+sequence_under speeds charge charge' q n k ss w = record { each_slot = w.each_slot; listed = w.listed; in_time = recharged speeds speeds charge charge' q k 0 ss w.in_time }
 
 -- where some sequence is in time, the planned one is, and none is below it
 pub plan_best : (l : Ledger) (t : Charges) (o : Order) (ss : List ℕ) → Sequence l l.queue ss →

@@ -91,6 +91,9 @@ goes_before i j x f b = grind (arith, nat_tests)
 before_turned : (i j : Job) → before i j ≡ false → before j i ≡ true
 before_turned i j f = grind (arith, nat_tests)
 
+pub before_trans : (i j k : Job) → before i j ≡ true → before j k ≡ true → before i k ≡ true
+before_trans i j k g h = grind (arith, nat_tests)
+
 pub ordered_enter : (j : Job) (q : List Job) → Ordered q → Ordered (enter j q)
 ordered_enter j [] p = (tt, tt)
 ordered_enter j (i ∷ q) (p, ps) =

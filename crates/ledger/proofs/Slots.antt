@@ -60,6 +60,10 @@ unnested_slot c k s q = pairs_slot (Apart c) k s q (λ u v j i h. h)
 pub distinct_slot : (k s : ℕ) (q : List Job) → Distinct q → Distinct (pump_slot k s q)
 distinct_slot k s q = pairs_slot (λ j i. i.number ≡ j.number → ⊥) k s q (λ u v j i h. h)
 
+pub length_pumped : (k s : ℕ) (q : List Job) → length (pumped k s q) ≡ length q
+length_pumped k s [] = refl
+length_pumped k s (j ∷ q) = ap suc (length_pumped k (s - share k s j) q)
+
 -- ## Gone
 
 pub gone_keep : (n : ℕ) (j : Job) (q : List Job) → Gone n (keep_open j q) → Gone n q
@@ -89,14 +93,27 @@ pub units_arrived : (k s : ℕ) (q : List Job) → units_pumped k s q ≡ min s 
 units_arrived k s [] = omega arith
 units_arrived k s (j ∷ q) = grind (arith, units_arrived k (s - share k s j) q)
 
+pub share_left : (k s : ℕ) (j : Job) → share k s j ≤ j.left
+share_left k s j = grind arith
+
+pub work_falls : (k s : ℕ) (q : List Job) → work q ≡ work (pumped k s q) + units_pumped k s q
+work_falls k s [] = refl
+work_falls k s (j ∷ q) = omega (arith, share_left k s j, work_falls k (s - share k s j) q)
+
+pub work_open_same : (q : List Job) → work (unfinished q) ≡ work q
+work_open_same [] = refl
+work_open_same (j ∷ q) = grind (arith, nat_tests, work_open_same q)
+
+pub count_falls : (q : List Job) → length q ≡ length (unfinished q) + finished q
+count_falls [] = refl
+count_falls (j ∷ q) = grind (arith, count_falls q)
+
 -- the open work falls by what the slot pumps, and the count by what it finishes
 pub slot_work : (k s : ℕ) (q : List Job) → work q ≡ work (pump_slot k s q) + min s (arrived q k)
-slot_work k s [] = omega arith
-slot_work k s (j ∷ q) = grind (arith, nat_tests, slot_work k (s - share k s j) q)
+slot_work k s q = omega (arith, work_falls k s q, work_open_same (pumped k s q), units_arrived k s q)
 
 pub slot_count : (k s : ℕ) (q : List Job) → length q ≡ length (pump_slot k s q) + finished (pumped k s q)
-slot_count k s [] = refl
-slot_count k s (j ∷ q) = grind (arith, slot_count k (s - share k s j) q)
+slot_count k s q = omega (arith, count_falls (pumped k s q), length_pumped k s q)
 
 -- ## First in the queue, first served
 

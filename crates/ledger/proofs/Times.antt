@@ -11,13 +11,14 @@ use Rattle.ledger.proofs.Queues.{each_map, each_zip, each_at, each_all, Lined, l
 use Rattle.ledger.proofs.Slots.{queue_after, take_units, gone_later, each_slot, open_left, ordered_slot, unnested_slot, distinct_slot}
 use Rattle.ledger.proofs.Pump.{step, done, after_take, take_none, covered, uncovered}
 
--- in time by what has arrived and what is owed; neither the speeds nor the charges play a part
+-- in time by what has arrived and what is owed
 abbrev pub Timely : List ℕ → List Job → ℕ → ℕ → List ℕ → Type 0
 Timely speeds q k e ss = InTime (pump_for speeds q no_charge) k e ss
 
-pub recharged : (speeds : List ℕ) (charge charge' : ℕ → ℕ → ℕ) (q : List Job) (k e : ℕ) (ss : List ℕ) → InTime (pump_for speeds q charge) k e ss → InTime (pump_for speeds q charge') k e ss
-recharged speeds charge charge' q k e [] h = tt
-recharged speeds charge charge' q k e (s ∷ ss) (h, hs) = (h, recharged speeds charge charge' q (suc k) (step q k e s) ss hs)
+-- neither the speeds nor the charges play a part
+pub recharged : (speeds speeds' : List ℕ) (charge charge' : ℕ → ℕ → ℕ) (q : List Job) (k e : ℕ) (ss : List ℕ) → InTime (pump_for speeds q charge) k e ss → InTime (pump_for speeds' q charge') k e ss
+recharged speeds speeds' charge charge' q k e [] h = tt
+recharged speeds speeds' charge charge' q k e (s ∷ ss) (h, hs) = (h, recharged speeds speeds' charge charge' q (suc k) (step q k e s) ss hs)
 
 -- what is owed by each slot is done by then
 done_by : (speeds : List ℕ) (q : List Job) (k e : ℕ) (ss : List ℕ) → Timely speeds q k e ss → (n m : ℕ) → m ≡ k + suc n → n < length ss → owed q m ≤ done q k e (take (suc n) ss)
