@@ -23,6 +23,10 @@ offer_enough q m arrived need next s e f is h =
     let g = min (e + s) arrived in
     cond-true (leb need g) (best s (q.join m (get_or next g q.nought))) none (le-leb need g (omega arith)) ∙ ap (λ (v : ℕ). best s (q.join m (get_or next v q.nought))) (sym is)
 
+-- a row that was not lowered yet
+pub lowered_none : {M : Type 0} (q : Kind M) (f : ℕ → Best M) (from : ℕ) (picks : List ℕ) (row : List M) → Lowered q f from from picks row picks row
+lowered_none q f from picks row = record { inside = λ e h i. absurd (omega arith); below = λ e h. refl; above = λ e h. refl }
+
 -- a place that is not lowered, since what it holds is below what is offered
 lowered_keep : {M : Type 0} (q : Kind M) (f : ℕ → Best M) (from i s : ℕ) (m : M) (picks : List ℕ) (row : List M) (picks' : List ℕ) (row' : List M) → from ≤ i → f i ≡ best s m → q.not_above m (get_or row' i q.nought) ≡ false → Lowered q f from i picks row picks' row' → Lowered q f from (i + 1) picks row picks' row'
 lowered_keep {M} q f from i s m picks row picks' row' start is over inv = record {

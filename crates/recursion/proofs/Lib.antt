@@ -6,6 +6,7 @@ pub mod Alike
 pub mod Rising
 pub mod Feeding
 pub mod Matters
+pub mod Filling
 pub mod Choosing
 pub mod Tables
 pub mod Answering

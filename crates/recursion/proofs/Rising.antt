@@ -49,6 +49,7 @@ pub record Lawful (ss : List ℕ) (top : ℕ) : Type 0 where
   pub low_top : top ≤ 15
   pub from_nought : get_or ss 0 1 ≡ 0
   pub rising : Rising ss
+  pub is_last : top ≡ get_or ss (length ss - 1) 0
   pub under_top : (s : ℕ) → In s ss → s ≤ top
 
 above : (s : ℕ) (ss : List ℕ) → rises_from s ss ≡ true → (d : ℕ) → In d ss → s < d
@@ -88,6 +89,7 @@ lawful_gives (s ∷ ss) h =
       low_top = subst (λ (v : ℕ). v ≤ 15) last (leb-true (last_from s ss) 15 r.1);
       from_nought = eqb-true s 0 z.0;
       rising = rising_from s ss r.0;
+      is_last = refl;
       under_top = λ d i. subst (λ (v : ℕ). d ≤ v) last (in_under_last s ss r.0 d i);
     }
 

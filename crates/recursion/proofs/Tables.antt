@@ -39,11 +39,17 @@ reach_most top ws e zero = omega arith
 reach_most top [] e (suc i) = omega arith
 reach_most top (w ∷ ws) e (suc i) = omega (arith, reach_most top ws (min (e + top) w.arrived) i)
 
--- the slot at place i needs no more than has arrived
-slot_room : (top : ℕ) (ws : List SlotWork) (i : ℕ) → i < length ws → keeps_up top ws 0 ≡ true → max (due_at ws i) (low_for top (drop (i + 1) ws)) ≤ arrived_at ws i
+-- the slot at place i needs no more than has arrived, and its low is not above its reach
+pub record SlotRoom (top : ℕ) (ws : List SlotWork) (i : ℕ) : Type 0 where
+  pub enough : max (due_at ws i) (low_for top (drop (i + 1) ws)) ≤ arrived_at ws i
+  pub ordered : max (due_at ws i) (low_for top (drop (i + 1) ws)) - top ≤ reach_at top ws 0 i
+
+pub slot_room : (top : ℕ) (ws : List SlotWork) (i : ℕ) → i < length ws → keeps_up top ws 0 ≡ true → SlotRoom top ws i
 slot_room top ws i h up =
-    need_under top (get_or ws i no_work) (drop (i + 1) ws) (reach_at top ws 0 i)
-    (subst (λ (l : List SlotWork). keeps_up top l (reach_at top ws 0 i) ≡ true) (drop_more ws i no_work h) (keeps_up_on top ws 0 i up))
+    let w = get_or ws i no_work in
+    let rest = drop (i + 1) ws in
+    let here : keeps_up top (w ∷ rest) (reach_at top ws 0 i) ≡ true = subst (λ (l : List SlotWork). keeps_up top l (reach_at top ws 0 i) ≡ true) (drop_more ws i no_work h) (keeps_up_on top ws 0 i up) in
+    record { enough = need_under top w rest (reach_at top ws 0 i) here; ordered = low_under top (w ∷ rest) (reach_at top ws 0 i) here }
 
 -- the slots from place i on are done: a row of measures for that slot, and the table
 pub record Filled {M : Type 0} (q : Kind M) (y : Pump) (top first : ℕ) (work : List SlotWork) (width : ℕ) (next : List M) (bytes : List ℕ) (low i : ℕ) : Type 0 where
@@ -120,6 +126,7 @@ pub record Turn (top : ℕ) (work rest' : List SlotWork) (w : SlotWork) (i l hig
   pub needed : need ≡ max (due_at work i) low
   pub lowered : low' ≡ need - top
   pub high_is : high ≡ reach_at top work 0 i
+  pub ordered : low' ≤ high
   pub arrived_in : w.arrived < width
   pub high_in : high < width
   pub enough : need ≤ min (low' + top) w.arrived
@@ -140,7 +147,9 @@ turn {top} {work} {rest} {rest'} {w} reach {i} {need} {low} {low'} {width} first
     let due_is : need ≡ max (due_at work i) low = needed ∙ ap (λ (v : SlotWork). max v.due low) here in
     let on : length rest ≡ i + 1 = omega arith in
     let need_is : need ≡ max (due_at work i) (low_for top (drop (i + 1) work)) = due_is ∙ ap (max (due_at work i)) (low_is ∙ ap (λ (v : ℕ). low_for top (drop v work)) on) in
-    let near : need ≤ arrived_at work i = subst (λ (v : ℕ). v ≤ arrived_at work i) (sym need_is) (slot_room top work i (omega arith) up) in
+    let room = slot_room top work i (omega arith) up in
+    let near : need ≤ arrived_at work i = subst (λ (v : ℕ). v ≤ arrived_at work i) (sym need_is) room.enough in
+    let under : need - top ≤ reach_at top work 0 i = subst (λ (v : ℕ). v - top ≤ reach_at top work 0 i) (sym need_is) room.ordered in
     let high = reached i (omega arith) in
     record {
       first_ones = both.0;
@@ -151,6 +160,7 @@ turn {top} {work} {rest} {rest'} {w} reach {i} {need} {low} {low'} {width} first
       needed = due_is;
       lowered = lowered;
       high_is = high;
+      ordered = omega arith;
       arrived_in = omega (arith, most_at work i);
       high_in = omega (arith, reach_most top work 0 i);
       enough = omega arith;
