@@ -9,7 +9,7 @@ ghost use Rattle.recursion.specs.Windows.{keeps_up, reach_at};
 ghost use Rattle.recursion.specs.Rows.{HoldsPlan};
 
 use super::rows::fill_row;
-use super::slots::SlotsLeft;
+use super::slots::{SlotsLeft, check_slots};
 use super::speeds::LawfulSpeeds;
 use super::windows::Window;
 use super::{SlotWork, Unplanned};
@@ -86,8 +86,9 @@ pub fn plan<T: Tariff, M: Measure>(
     ensures bytes { KeptUnlessPlanned result bytes.old bytes.new }
     ensures measures { KeptUnlessPlanned result measures.old measures.new }
 {
-    let slots = SlotsLeft::checked(first, work, chosen.len())?;
+    check_slots(first, work, chosen.len())?;
     let speeds = LawfulSpeeds::try_from(speeds)?;
+    let slots = SlotsLeft::new(first, work);
     slots.check_memory(bytes.len(), measures.len())?;
     let reach = slots.reach_at_top(speeds.top())?;
     let least = fill(tariff, speeds, slots, &reach, bytes, measures);

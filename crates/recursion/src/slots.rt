@@ -27,23 +27,27 @@ pub(crate) struct SlotsLeft<'a> {
     ghost narrow: { width ≤ 65536 },
 }
 
+// Refuses slots that pass the 96th, and places for the speeds that are not as many.
+pub(crate) fn check_slots(first: usize, work: &[SlotWork], places: usize) -> Result<(), Unplanned>
+    ensures { MatchResult result (λ u. slots_wrong first work.now places ≡ false) (λ e. (e ≡ SlotsWrong) × (slots_wrong first work.now places ≡ true)) }
+{
+    if first > 96 || work.len() > 96 - first || places != work.len() {
+        return Err(Unplanned::Slots);
+    }
+    Ok(())
+}
+
 impl<'a> SlotsLeft<'a> {
-    // The slots, unless they pass the 96th or the places for the speeds are not as many.
-    pub(crate) fn checked(
-        first: usize,
-        work: &'a [SlotWork],
-        places: usize,
-    ) -> Result<Self, Unplanned>
-        ensures { MatchResult result (λ s. (slots_wrong first work.now places ≡ false) × (s.first ≡ first) × (s.work.now ≡ work.now) × (length work.now ≡ places)) (λ e. (e ≡ SlotsWrong) × (slots_wrong first work.now places ≡ true)) }
+    // The slots, once they are checked. Apart from the check, since this goes over all the work, which other refusals need not.
+    pub(crate) fn new(first: usize, work: &'a [SlotWork]) -> Self
+        requires { first + length work.now ≤ 96 }
+        ensures { (result.first ≡ first) × (result.work.now ≡ work.now) }
     {
-        if first > 96 || work.len() > 96 - first || places != work.len() {
-            return Err(Unplanned::Slots);
-        }
-        Ok(SlotsLeft {
+        SlotsLeft {
             first,
             work,
             width: most_arrived(work) as usize + 1,
-        })
+        }
     }
 
     // Refuses lent memory that is short.

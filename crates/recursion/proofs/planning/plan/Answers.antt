@@ -40,7 +40,7 @@ returns g c =
     let q = g.M.Measure.kind in
     let laws = ranked g.M.Measure.laws in
     let charge = g.T.Tariff.charge c.args.tariff.now in
-    let slots = c.in_ok-slots.slots in
+    let slots = c.new-slots.result in
     let ss = c.in_ok-speeds.speeds.listed.now in
     let work = slots.work.now in
     let y = pump_of ss slots.first work charge in
@@ -50,8 +50,8 @@ returns g c =
     subst (λ (cs : List ℕ). PlanIsBest q y (length work) slots.first 0 c.fill-least.result cs) (sym chosen) ((pump_optimal laws y (length work) slots.first 0).planned_is_best c.fill-least.result c.fill-least.ensures.answer) in
     record {
       answer = search rules;
-      chosen = rw (c.in_ok-speeds.ensures, c.in_ok-slots.ensures.1, c.in_ok-slots.ensures.2) at chosen;
-      promise = rw (c.in_ok-speeds.ensures, c.in_ok-slots.ensures.1, c.in_ok-slots.ensures.2) at promise;
+      chosen = rw (c.in_ok-speeds.ensures, c.new-slots.ensures.0, c.new-slots.ensures.1) at chosen;
+      promise = rw (c.in_ok-speeds.ensures, c.new-slots.ensures.0, c.new-slots.ensures.1) at promise;
       bytes = search rules;
       measures = search rules;
     }
