@@ -1,5 +1,6 @@
 pub mod FieldFacts
 pub mod FieldLaws
+pub mod Fitting
 pub mod Found
 pub mod LineFacts
 pub mod LineLaws

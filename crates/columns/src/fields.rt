@@ -67,10 +67,10 @@ fn can_hold(bytes: &[u8], column: usize, width: usize) -> bool
 fn has_columns(bytes: &[u8], widths: &[usize]) -> bool
     ensures { result ≡ (sum widths.now == length bytes.now) }
 {
-    let columns = widths
+    let left = widths
         .iter()
-        .try_fold(0usize, |sum, width| sum.checked_add(*width));
-    columns == Some(bytes.len())
+        .try_fold(bytes.len(), |left, width| left.checked_sub(*width));
+    left == Some(0)
 }
 
 impl Line<'_> {
