@@ -1,10 +1,11 @@
 -- A slot pumped, job by job, and the finished jobs left out.
-use Rattle.std.proofs.Common.{◌≡◌, ℕ, suc, ◌+◌, ◌-◌, ◌<◌, ◌≤◌, min, true, false, cond, not, eqb, leb, List, [], ◌∷◌, ◌++◌, length, filter, get_or, take, drop, set, sym, refl, ap, ◌∙◌, subst, append_assoc, arith, drop_of_length-le, length-take-le, take_all, get_or-take, drop-set-lt}
+use Rattle.std.proofs.Common.{◌≡◌, ℕ, ◌+◌, ◌-◌, ◌<◌, ◌≤◌, min, true, false, cond, not, eqb, leb, List, [], ◌∷◌, ◌++◌, length, filter, get_or, take, drop, set, sym, refl, ap, ◌∙◌, subst, append_assoc, arith, drop_of_length-le, length-take-le, take_all, get_or-take, drop-set-lt}
 use lib.Seq.{take-set-lt}
 use Rattle.std.proofs.lemmas.List.{drop_more, take_more_set, append-nil}
 use Rattle.std.proofs.lemmas.Bool.{cond_both}
 use Rattle.ledger.specs.declared.job.Job.{Job}
 use Rattle.ledger.specs.Queue.{lower, share, pumped, units_pumped, finished, unfinished}
+use Rattle.ledger.proofs.Slots.{count_falls}
 use Rattle.stay.specs.Jobs.{blank}
 
 -- a job loses no more than the speed
@@ -85,7 +86,4 @@ same_here xs ys i d e a b =
 
 -- the jobs are the open ones and the finished ones
 pub open_and_finished : (q : List Job) → length (unfinished q) + finished q ≡ length q
-open_and_finished [] = refl
-open_and_finished (j ∷ q) =
-    let r = open_and_finished q in
-    elim (eqb j.left 0) as (λ b. length (cond b (unfinished q) (j ∷ unfinished q)) + (cond b 1 0 + finished q) ≡ suc (length q)) [ true ↦ omega arith | false ↦ omega arith ]
+open_and_finished q = sym (count_falls q)

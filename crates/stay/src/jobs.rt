@@ -26,7 +26,6 @@ impl Table<Job> {
     }
 
     /// The units left of all open jobs.
-    // One chain, as each of the work sums is.
     pub(crate) fn work_left(&self) -> u32
         ensures { result ≡ work (queue_of self.now) }
     {

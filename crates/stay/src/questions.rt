@@ -25,7 +25,7 @@ impl Stay {
     pub(crate) fn speed_at(&self, slot: u32) -> Option<u8>
         ensures { result ≡ speed_at (contents self.now) slot }
     {
-        let plan = self.plan?;
+        let plan = self.plan.as_ref()?;
         self.ahead()
             .contains(slot)
             .then(|| plan.speeds[slot as usize])

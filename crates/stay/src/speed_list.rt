@@ -24,6 +24,10 @@ impl SpeedList {
         ensures made { is_some result ≡ lawful_speeds list.now }
         ensures same { elim result [ Some s ↦ take s.count s.speeds ≡ list.now | None ↦ Unit {0} ] }
     {
+        // Refused at once: `as_bytes` goes over all of the list.
+        let [0, _, ..] = list else {
+            return None;
+        };
         let speeds = as_bytes(list)?;
         let count = list.len();
         if !lawful(&speeds[..count]) {
