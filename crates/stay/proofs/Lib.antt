@@ -1,4 +1,5 @@
 pub mod Entering
+pub mod Capping
 pub mod Striking
 pub mod Adding
 pub mod Inside

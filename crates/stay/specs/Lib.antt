@@ -7,3 +7,4 @@ pub mod Tariffs
 pub mod BookingRules
 pub mod Calls
 pub mod Histories
+pub mod Capped

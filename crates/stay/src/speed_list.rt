@@ -20,15 +20,19 @@ pub struct SpeedList {
 impl SpeedList {
     /// The list as a speed list, if it keeps the rules.
     // Public by this name: a `TryFrom` beside it would be a second way.
+    #[tactic(auto, using(crate::proofs::Capping::lawful_bytes, crate::proofs::Capping::same_bytes))]
     pub fn from_slice(list: &[u32]) -> Option<SpeedList>
         ensures made { is_some result ≡ lawful_speeds list.now }
         ensures same { elim result [ Some s ↦ take s.count s.speeds ≡ list.now | None ↦ Unit {0} ] }
     {
-        // Refused at once: `as_bytes` goes over all of the list.
+        // Refused before the list is turned into bytes.
         let [0, _, ..] = list else {
             return None;
         };
-        let speeds = as_bytes(list)?;
+        if list.len() > 16 {
+            return None;
+        }
+        let speeds = as_bytes(list);
         let count = list.len();
         if !lawful(&speeds[..count]) {
             return None;

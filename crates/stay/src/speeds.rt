@@ -1,20 +1,16 @@
 // A list of speeds as bytes.
-ghost use Rattle.std.specs.Prelude.{◌≡◌, ◌≤◌, false, length, take, IfSome, IfNone, OnSome};
-ghost use Rattle.recursion.specs.Speeds.{lawful_speeds};
+ghost use Rattle.std.specs.Prelude.{◌≡◌, ◌≤◌, length, take, map};
+ghost use Rattle.stay.specs.Capped.{capped};
 
-/// The speeds, in the first places, if there are at most sixteen and each fits a byte.
-pub(crate) fn as_bytes(list: &[u32]) -> Option<[u8; 16]>
-    ensures some { IfSome result (λ speeds. take (length list.now) speeds ≡ list.now) }
-    ensures few { OnSome result (length list.now ≤ 16) }
-    ensures none { IfNone result (lawful_speeds list.now ≡ false) }
+/// The speeds as bytes, in the first places; one that fits no byte as the largest byte, which is no lawful speed either.
+pub(crate) fn as_bytes(list: &[u32]) -> [u8; 16]
+    requires { length list.now ≤ 16 }
+    ensures { take (length list.now) result ≡ map capped list.now }
 {
-    if list.len() > 16 {
-        return None;
-    }
     // A fixed array, by index: the list may be shorter, and behind `take` on `iter_mut` a proof knows no element.
     let mut speeds = [0u8; 16];
     for (i, speed) in list.iter().enumerate() {
-        speeds[i] = u8::try_from(*speed).ok()?;
+        speeds[i] = (*speed).min(255) as u8;
     }
-    Some(speeds)
+    speeds
 }
